@@ -1,0 +1,54 @@
+-- What a setup whose numbers pass the tests is known to be, and the three ways through `checked`. Assumes nothing.
+use Prim.Native.Nat.{ℕ}
+use native.Mathlib.Omega.{arith}
+use mathlib.Core.Path.{_≡_, refl, sym, subst, _∙_}
+use mathlib.Core.Bool.{Bool, true, false, _&&_}
+use borrow.Author.Tests.{leb-true, eqb-true}
+use Rattle.setup.specs.declared.Setup.{Setup}
+use Rattle.setup.specs.declared.Checked.{Checked}
+use Rattle.setup.specs.declared.Checked.the-variants.{Good, Refused}
+use Rattle.setup.specs.Choice.{pick}
+use Rattle.setup.specs.Setup.{sizesOk, restOk, inRange, Sizes, Ranges, withDefaults, checkedOf}
+
+pub and-l : (x y : Bool) → x && y ≡ true → x ≡ true
+and-l true y h = refl
+and-l false y h = h
+
+pub and-r : (x y : Bool) → x && y ≡ true → y ≡ true
+and-r true y h = h
+and-r false true h = refl
+and-r false false h = h
+
+pub sizes : (s : Setup) → sizesOk s ≡ true → Sizes s
+sizes s h = search (and-l, and-r, leb-true) depth 12
+
+pub passed : (s : Setup) (t : Bool) → t ≡ sizesOk s → t ≡ true → Sizes s
+passed s t e h = sizes s (sym e ∙ h)
+
+pub full-passed : (s f : Setup) (t : Bool) → t ≡ sizesOk s → t ≡ true → f ≡ withDefaults s → Sizes f
+full-passed s f t e h w = rw w (sizes (withDefaults s) (sym e ∙ h))
+
+-- t and u are what the two tests answered, and f what the defaults gave
+module _ (s f : Setup) (t u : Bool) where
+  pub good : t ≡ sizesOk s → t ≡ true → f ≡ withDefaults s → u ≡ restOk f → u ≡ true → Good f ≡ checkedOf s
+  good e₁ h₁ e₂ e₃ h₂ = cc
+
+  pub refused : t ≡ sizesOk s → t ≡ true → f ≡ withDefaults s → u ≡ restOk f → u ≡ false → Refused ≡ checkedOf s
+  refused e₁ h₁ e₂ e₃ h₂ = cc
+
+pub too-large : (s : Setup) (t : Bool) → t ≡ sizesOk s → t ≡ false → Refused ≡ checkedOf s
+too-large s t e h = cc
+
+-- What a caller knows of the setup that `checked` answered.
+ranges : (s : Setup) → inRange s ≡ true → Ranges s
+ranges s h = let z : Sizes s = sizes s (and-l _ _ h) in search (and-l, and-r, leb-true, eqb-true) depth 12
+
+picked : (b : Bool) (g f : Setup) → pick b (Good g) Refused ≡ Good f → (b ≡ true) × (g ≡ f)
+picked true g f h = (refl, cc)
+picked false g f h = let z : _≡_ {A = ℕ} 0 1 = cc in absurd (omega arith)
+
+pub good-ranges : (s f : Setup) (r : Checked) → r ≡ checkedOf s → r ≡ Good f → Ranges f
+good-ranges s f r e h = let p = picked (inRange (withDefaults s)) (withDefaults s) f (sym e ∙ h) in ranges f (subst (λ (g : Setup). inRange g ≡ true) (p .1) (p .0))
+
+pub good-sizes : (s f : Setup) (r : Checked) → r ≡ checkedOf s → r ≡ Good f → Sizes f
+good-sizes s f r e h = good-ranges s f r e h .sizes

@@ -1,0 +1,33 @@
+//! From address to bank.
+
+use crate::setup::Configuration;
+
+/// What the line card sends.
+#[derive(Clone, Copy, Debug, PartialEq, Eq, Hash)]
+pub struct Address(pub u32);
+
+/// An address after the permutation; memory is indexed by it.
+#[derive(Clone, Copy, Debug, PartialEq, Eq, Hash)]
+pub struct Cell(pub u32);
+
+impl Configuration {
+    /// (u·address + v) mod N.
+    pub fn cell(&self, Address(address): Address) -> Cell {
+        let image = u64::from(self.u) * u64::from(address) + u64::from(self.v);
+        Cell((image % u64::from(self.words())) as u32)
+    }
+
+    /// The bank of a cell and its row inside that bank: the low s bits, and the rest.
+    pub fn bank_and_row(&self, Cell(cell): Cell) -> (usize, u32) {
+        let banks = 1 << self.s;
+        ((cell % banks) as usize, cell / banks)
+    }
+
+    pub fn bank(&self, cell: Cell) -> usize {
+        self.bank_and_row(cell).0
+    }
+
+    pub fn bank_of(&self, address: Address) -> usize {
+        self.bank(self.cell(address))
+    }
+}
