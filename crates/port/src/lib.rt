@@ -7,3 +7,17 @@ pub enum Operation {
     Read(Address),
     Write(Address, u32),
 }
+
+// What leaves: nothing, a read that still lacks its word, or a word.
+pub enum Delivery {
+    None,
+    Unready,
+    Word(u32),
+}
+
+// What a cycle's call returns: the answer number, what leaves, and the stamp of this cycle.
+pub struct Reply {
+    pub answer: u32,
+    pub delivery: Delivery,
+    pub stamp: u32,
+}

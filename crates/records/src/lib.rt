@@ -1,13 +1,16 @@
 // The house records: fixed size, no header, little-endian.
 ghost use mathlib.Core.Path.{_≡_};
+ghost use Prim.Native.Nat.{_≤_};
+ghost use mathlib.Core.List.{[], _∷_, _++_};
 ghost use lib.ListN.{length};
+ghost use lib.Seq.{sets};
 ghost use Rattle.answers.specs.Answers.{done};
-ghost use Rattle.records.specs.Records.{operationSize, goodIf, operationIn, operationOf, operationBytesOf, operationWritten, setupSize, setupIn, allowed, setupOf, setupBytes, setupWritten};
+ghost use Rattle.records.specs.Records.{bytesOf, zeros, operationSize, goodIf, operationIn, operationOf, operationBytesOf, operationWritten, setupSize, setupIn, allowed, setupOf, setupBytes, setupWritten};
 mod little_endian;
-use little_endian::put_u16;
-use little_endian::put_u32;
-use little_endian::u16_at;
-use little_endian::u32_at;
+use little_endian::put_two;
+use little_endian::put_four;
+use little_endian::two_at;
+use little_endian::four_at;
 use map::Address;
 use port::Operation;
 use setup::Checked;
@@ -72,34 +75,42 @@ fn operation_in(kind: u8, address: u32, word: u32) -> OperationRecord
     good_if(kind == KIND_WRITE, Operation::Write(Address(address), word))
 }
 
-pub fn read_operation(record: &[u8]) -> OperationRecord
-    ensures { λ r. ⌜ r ≡ operationOf (now (record .entry)) ⌝ }
+pub fn read_operation(bytes: &[u8]) -> OperationRecord
+    ensures { λ r. ⌜ r ≡ operationOf (now (bytes .entry)) ⌝ }
 {
-    if record.len() != OPERATION_BYTES {
+    if bytes.len() != OPERATION_BYTES {
         return OperationRecord::Bad;
     }
-    if (record[1] == 0) & (record[2] == 0) & (record[3] == 0) {
+    if (bytes[1] == 0) & (bytes[2] == 0) & (bytes[3] == 0) {
         operation_in(
-            record[0],
-            u32_at(record, ADDRESS_AT),
-            u32_at(record, WORD_AT),
+            bytes[0],
+            four_at(bytes, ADDRESS_AT),
+            four_at(bytes, WORD_AT),
         )
     } else {
         OperationRecord::Bad
     }
 }
 
+// Stores the first four bytes of a record; none of them is part of a longer number.
+fn put_first(room: &mut [u8], a: u8, b: u8, c: u8, d: u8)
+    requires { ⌜ 4 ≤ length (now room) ⌝ }
+    ensures { λ _. ⌜ now (room .exit) ≡ sets (now (room .entry)) 0 (a ∷ b ∷ c ∷ d ∷ []) ⌝ }
+{
+    room[0] = a;
+    room[1] = b;
+    room[2] = c;
+    room[3] = d;
+}
+
 // Stores an operation's numbers over a whole room.
 fn put_operation(room: &mut [u8], kind: u8, address: u32, word: u32) -> u32
     requires { ⌜ length (now room) ≡ operationSize ⌝ }
-    ensures { λ r. ⌜ (r, now (room .exit)) ≡ (done, operationBytesOf kind address word) ⌝ }
+    ensures { λ r. ⌜ (r ≡ done) × (now (room .exit) ≡ operationBytesOf kind address word) ⌝ }
 {
-    room[0] = kind;
-    room[1] = 0;
-    room[2] = 0;
-    room[3] = 0;
-    put_u32(room, ADDRESS_AT, address);
-    put_u32(room, WORD_AT, word);
+    put_first(room, kind, 0, 0, 0);
+    put_four(room, ADDRESS_AT, address);
+    put_four(room, WORD_AT, word);
     answers::DONE
 }
 
@@ -127,52 +138,57 @@ fn is_allowed(s: Setup) -> bool
 }
 
 // The numbers of a setup record, whatever they are.
-fn setup_in(record: &[u8]) -> Setup
-    requires { ⌜ length (now record) ≡ setupSize ⌝ }
-    ensures { λ r. ⌜ r ≡ setupIn (now (record .entry)) ⌝ }
+fn setup_in(bytes: &[u8]) -> Setup
+    requires { ⌜ length (now bytes) ≡ setupSize ⌝ }
+    ensures { λ r. ⌜ r ≡ setupIn (now (bytes .entry)) ⌝ }
 {
     Setup {
-        mode: record[0],
-        a: record[1],
-        s: record[2],
-        m: record[3],
-        k: u16_at(record, K_AT),
-        delta: u16_at(record, DELTA_AT),
-        c: u16_at(record, C_AT),
-        u: u32_at(record, U_AT),
-        v: u32_at(record, V_AT),
+        mode: bytes[0],
+        a: bytes[1],
+        s: bytes[2],
+        m: bytes[3],
+        k: two_at(bytes, K_AT),
+        delta: two_at(bytes, DELTA_AT),
+        c: two_at(bytes, C_AT),
+        u: four_at(bytes, U_AT),
+        v: four_at(bytes, V_AT),
     }
 }
 
-pub fn read_setup(record: &[u8]) -> SetupRecord
-    ensures { λ r. ⌜ r ≡ setupOf (now (record .entry)) ⌝ }
+pub fn read_setup(bytes: &[u8]) -> SetupRecord
+    ensures { λ r. ⌜ r ≡ setupOf (now (bytes .entry)) ⌝ }
 {
-    if record.len() != SETUP_BYTES {
+    if bytes.len() != SETUP_BYTES {
         return SetupRecord::Refused;
     }
-    let s = setup_in(record);
-    if (record[ZEROS_AT] == 0) & (record[ZEROS_AT + 1] == 0) & is_allowed(s) {
+    let s = setup_in(bytes);
+    if (bytes[ZEROS_AT] == 0) & (bytes[ZEROS_AT + 1] == 0) & is_allowed(s) {
         SetupRecord::Good(s)
     } else {
         SetupRecord::Refused
     }
 }
 
+// Stores K, delta and C, and the two zero bytes after them.
+fn put_middle(room: &mut [u8], k: u16, delta: u16, c: u16)
+    requires { ⌜ length (now room) ≡ setupSize ⌝ }
+    ensures { λ _. ⌜ now (room .exit) ≡ sets (now (room .entry)) 4 (bytesOf 2 k ++ bytesOf 2 delta ++ bytesOf 2 c ++ zeros 2) ⌝ }
+{
+    put_two(room, K_AT, k as u32);
+    put_two(room, DELTA_AT, delta as u32);
+    put_two(room, C_AT, c as u32);
+    put_two(room, ZEROS_AT, 0);
+}
+
 // Stores a setup over a whole room.
 fn put_setup(room: &mut [u8], s: Setup) -> u32
     requires { ⌜ length (now room) ≡ setupSize ⌝ }
-    ensures { λ r. ⌜ (r, now (room .exit)) ≡ (done, setupBytes s) ⌝ }
+    ensures { λ r. ⌜ (r ≡ done) × (now (room .exit) ≡ setupBytes s) ⌝ }
 {
-    room[0] = s.mode;
-    room[1] = s.a;
-    room[2] = s.s;
-    room[3] = s.m;
-    put_u16(room, K_AT, s.k);
-    put_u16(room, DELTA_AT, s.delta);
-    put_u16(room, C_AT, s.c);
-    put_u16(room, ZEROS_AT, 0);
-    put_u32(room, U_AT, s.u);
-    put_u32(room, V_AT, s.v);
+    put_first(room, s.mode, s.a, s.s, s.m);
+    put_middle(room, s.k, s.delta, s.c);
+    put_four(room, U_AT, s.u);
+    put_four(room, V_AT, s.v);
     answers::DONE
 }
 

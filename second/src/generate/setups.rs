@@ -19,9 +19,9 @@ struct Sizes {
 }
 
 const TINY: Sizes = Sizes {
-    a: 3,
+    a: 5,
     s: 2,
-    m: 4,
+    m: 6,
     k: 3,
     slack: 5,
 };
@@ -92,7 +92,7 @@ fn written([a, s, m, k, delta, c]: [usize; 6], random: &mut Random) -> Setup {
     let defaults = random.chance(50);
     let (any_odd, any) = (2 * random.below(n / 2) + 1, random.below(n));
     Setup {
-        mode: u8::from(random.chance(60)),
+        mode: u8::from(random.chance(65)),
         a: a as u8,
         s: s as u8,
         m: m as u8,

@@ -16,7 +16,7 @@ enum Pattern {
     /// Any addresses of one bank.
     OneBank,
     Uniform,
-    /// C cycles and more without an idle one, all reads or all writes.
+    /// C cycles and more without an idle one: reads, writes or both.
     Burst,
     /// Idle cycles, at times enough to empty everything.
     Rest,
@@ -24,22 +24,33 @@ enum Pattern {
     Echo,
 }
 
-const PATTERNS: [Pattern; 7] = [
+/// The busy patterns; those that fill a buffer stand here twice.
+const BUSY: [Pattern; 9] = [
     Pattern::Hot,
     Pattern::Stride,
+    Pattern::Stride,
+    Pattern::OneBank,
     Pattern::OneBank,
     Pattern::Uniform,
     Pattern::Burst,
-    Pattern::Rest,
+    Pattern::Burst,
     Pattern::Echo,
 ];
+
+/// The patterns of one sequence, some of which rest at times.
+fn patterns(random: &mut Random) -> Vec<Pattern> {
+    let busy = (0..random.between(1, 3)).map(|_| random.pick(&BUSY));
+    let mut patterns: Vec<Pattern> = busy.collect();
+    if random.chance(30) {
+        patterns.push(Pattern::Rest);
+    }
+    patterns
+}
 
 /// A sequence of good and bad addresses for one configuration.
 pub fn operations(configuration: &Configuration, random: &mut Random) -> Vec<Operation> {
     let length = length(configuration, random);
-    let patterns: Vec<Pattern> = (0..random.between(1, 4))
-        .map(|_| random.pick(&PATTERNS))
-        .collect();
+    let patterns = patterns(random);
     let mut traffic = Traffic::new(configuration, random);
     while traffic.operations.len() < length {
         let pattern = traffic.random.pick(&patterns);
@@ -56,7 +67,7 @@ fn length(configuration: &Configuration, random: &mut Random) -> usize {
         0 => random.below(12),
         1 => random.below(2 * configuration.c),
         2 => 5 * lives + random.below(500),
-        _ => lives + random.below(lives + 60),
+        _ => lives + random.below(lives + 250),
     };
     length.min(MOST_OPERATIONS)
 }
@@ -76,7 +87,7 @@ impl Traffic<'_> {
         let mut traffic = Traffic {
             configuration,
             hot: Vec::new(),
-            percent_idle: random.pick(&[0, 5, 20, 50, 80]),
+            percent_idle: random.pick(&[0, 0, 10, 40, 75]),
             percent_write: random.pick(&[5, 20, 50, 90]),
             percent_bad: random.pick(&[0, 0, 0, 0, 3, 15]),
             random,
@@ -133,7 +144,7 @@ impl Traffic<'_> {
     }
 
     fn burst(&mut self) {
-        let writes = self.random.chance(50);
+        let percent_write = self.random.pick(&[0, 50, 100]);
         let bank = self.random.below(self.configuration.banks());
         let keeps_to_bank = self.random.chance(50);
         let length = self.configuration.c + self.random.below(self.configuration.c + 3);
@@ -143,6 +154,7 @@ impl Traffic<'_> {
             } else {
                 self.any_address()
             };
+            let writes = self.random.chance(percent_write);
             self.offer(writes, address);
         }
     }
@@ -223,7 +235,7 @@ impl Traffic<'_> {
     /// Mostly a word that no earlier write of the run has.
     fn word(&mut self) -> Word {
         let fresh = self.operations.len() as Word + 1;
-        let any = self.random.next() as Word;
+        let any = self.random.number() as Word;
         let ends = self.random.pick(&[0, 1, Word::MAX]);
         self.random.pick(&[fresh, fresh, fresh, fresh, any, ends])
     }

@@ -1,0 +1,224 @@
+-- The document's "One cycle": service, delivery, retirement, arrival, in this order. On a state that no run produces it goes by the same words.
+use Prim.Native.Nat.{ℕ, zero, suc, _+_, _-_, _*_, _%_, _^_}
+use mathlib.Core.Bool.{Bool, true, false, not, _&&_, _||_}
+use mathlib.Core.List.{List}
+use lib.Dec.{eqb}
+use lib.ListN.{getD, set}
+use Rattle.answers.specs.Answers.{done, dropped, stopping}
+use Rattle.setup.specs.Choice.{pick}
+use Rattle.setup.specs.Setup.{banksOf}
+use Rattle.setup.specs.declared.Setup.{Setup}
+use Rattle.map.specs.Map.{cellOf, bankOf}
+use Rattle.map.specs.declared.Address.{Address}
+use Rattle.port.specs.declared.Operation.{Operation}
+use Rattle.port.specs.declared.Operation.the-variants.{Idle, Read, Write}
+use Rattle.port.specs.declared.Delivery.{Delivery}
+use Rattle.port.specs.declared.Delivery.the-variants.{None, Unready, Word}
+use Rattle.model.specs.declared.State.{State}
+use Rattle.model.specs.declared.Row.{Row}
+use Rattle.model.specs.declared.Entry.{Entry}
+use Rattle.model.specs.declared.Found.{Found}
+use Rattle.model.specs.declared.Found.the-variants.{At, Nothing}
+use Rattle.model.specs.declared.Cycled.{Cycled}
+use Rattle.model.specs.Lent.{Lent, Buffers, buffersIn, withRows, withBuffers, emptyKind, writeKind, readKind, waitingKind, rowOf, rowAt, putRow, emptyRow, readEntry, writeEntry, entryOf, entryAt, putEntry, oldestOf, countOf, putHead, onward, back}
+
+------------------------------------------------------------------------
+-- 1. Service. Each bank b with b mod m = t mod m, in rising b, takes the oldest entry of its buffer, if any.
+
+-- row p, or a row waiting on that row, where these are reads still lacking a word
+abbrev pub lacks : ℕ → ℕ → Row → Bool
+lacks p i r = eqb (r .kind) waitingKind && (eqb i p || eqb (r .link) p)
+
+abbrev pub withWord : Row → ℕ → Row
+withWord r w = rowOf readKind (r .address .0) w 0
+
+abbrev pub filledRow : ℕ → ℕ → ℕ → List ℕ → List ℕ
+filledRow p w i rows = pick (lacks p i (rowAt rows i)) (putRow rows i (withWord (rowAt rows i) w)) rows
+
+-- the rows below i, once row p's entry has brought the word w
+unfoldable pub filledBelow : ℕ → ℕ → ℕ → List ℕ → List ℕ
+filledBelow p w zero rows = rows
+filledBelow p w (suc i) rows = filledRow p w i (filledBelow p w i rows)
+
+-- memory and rows once an entry is carried out:
+-- a write entry stores its word at its cell; a read entry's word goes to its row and to every row waiting on that row
+unfoldable pub carried : Setup → Entry → List ℕ × List ℕ → List ℕ × List ℕ
+carried s e (memory, rows) =
+    pick (eqb (e .kind) writeEntry) (set memory (e .cell .0) (e .word), rows)
+    (memory, filledBelow (e .row) (getD memory (e .cell .0) 0) (s .c) rows)
+
+-- the oldest entry of bank b's buffer, among the K of its own part of the entry room
+abbrev pub oldestEntry : Setup → ℕ → Buffers → Entry
+oldestEntry s b q = entryAt (q .entries) (b * s .k + oldestOf (q .heads) b)
+
+-- the heads once bank b's oldest entry is taken
+abbrev pub popped : Setup → ℕ → List ℕ → List ℕ
+popped s b heads = putHead heads b (onward (s .k) (oldestOf heads b) 1) (countOf heads b - 1)
+
+abbrev pub withCarried : Buffers → List ℕ × List ℕ → Lent
+withCarried q (memory, rows) = record { memory = memory; rows = rows; buffers = q }
+
+unfoldable pub servedBank : Setup → ℕ → Lent → Lent
+servedBank s b x =
+    pick (eqb (countOf (x .buffers .heads) b) 0) x
+    (withCarried (buffersIn (x .buffers .entries) (popped s b (x .buffers .heads)))
+    (carried s (oldestEntry s b (x .buffers)) (x .memory, x .rows)))
+
+abbrev pub servedIf : Setup → ℕ → ℕ → Lent → Lent
+servedIf s turn b x = pick (eqb (b % s .m) turn) (servedBank s b x) x
+
+-- the banks below b
+unfoldable pub servedBelow : Setup → ℕ → ℕ → Lent → Lent
+servedBelow s turn zero x = x
+servedBelow s turn (suc b) x = servedIf s turn b (servedBelow s turn b x)
+
+abbrev pub served : Setup → ℕ → Lent → Lent
+served s turn x = servedBelow s turn (banksOf s) x
+
+------------------------------------------------------------------------
+-- 2. Delivery. The row filled at t − Δ is looked at.
+
+-- a read with a word delivers it, a read without one delivers "unready", and a write or an empty row delivers none
+abbrev pub leaves : Row → Delivery
+leaves r = pick (eqb (r .kind) readKind) (Word (r .word)) (pick (eqb (r .kind) waitingKind) Unready None)
+
+abbrev pub delivered : Setup → ℕ → Lent → Delivery
+delivered s position x = leaves (rowAt (x .rows) (back (s .c) position (s .delta)))
+
+------------------------------------------------------------------------
+-- Looking back through the table, newest first, and placing an entry
+
+-- the first such row among the n places before i
+unfoldable pub scan : (Row → Bool) → ℕ → List ℕ → ℕ → ℕ → Found
+scan f c rows zero i = Nothing
+scan f c rows (suc n) i =
+    pick (f (rowAt rows (back c i 1))) (At (back c i 1)) (scan f c rows n (back c i 1))
+
+-- a row of this address: whole addresses are compared
+abbrev pub isOf : Address → Row → Bool
+isOf a r = not (eqb (r .kind) emptyKind) && eqb (r .address .0) (a .0)
+
+abbrev pub writes : Address → Row → Bool
+writes a r = eqb (r .kind) writeKind && eqb (r .address .0) (a .0)
+
+-- the live rows that are newer than the row at the position are the C − 1 before it
+abbrev pub newestLive : Setup → ℕ → Address → List ℕ → Found
+newestLive s position a rows = scan (isOf a) (s .c) rows (s .c - 1) position
+
+abbrev pub newestWrite : Setup → ℕ → Address → List ℕ → Found
+newestWrite s position a rows = scan (writes a) (s .c) rows (s .c - 1) position
+
+-- first in, first out: behind the last entry of bank b's buffer
+abbrev pub placedAt : Setup → ℕ → Entry → Buffers → Buffers
+placedAt s b e q =
+    buffersIn
+    (putEntry (q .entries) (b * s .k + onward (s .k) (oldestOf (q .heads) b) (countOf (q .heads) b)) e)
+    (putHead (q .heads) b (oldestOf (q .heads) b) (countOf (q .heads) b + 1))
+
+-- an entry needs a place in the buffer of its cell's bank: there is one unless the buffer holds K
+unfoldable pub placed : Setup → Entry → Buffers → Bool × Buffers
+placed s e q =
+    pick (eqb (countOf (q .heads) (bankOf s (e .cell))) (s .k)) (false, q)
+    (true, placedAt s (bankOf s (e .cell)) e q)
+
+-- write entries carry their own cell and word
+abbrev pub writeOf : Setup → Address → ℕ → Entry
+writeOf s a w = entryOf writeEntry 0 (cellOf s a .0) w
+
+abbrev pub readOf : Setup → ℕ → Address → Entry
+readOf s position a = entryOf readEntry position (cellOf s a .0) 0
+
+------------------------------------------------------------------------
+-- 3. Retirement. The row filled at t − C is given up.
+
+abbrev pub withPlaced : Lent → Bool × Buffers → Bool × Lent
+withPlaced x (there, q) = (there, withBuffers q x)
+
+-- a write, if no newer live row is a write to its address, is placed in its bank's buffer; false where that is full
+abbrev pub retiredWrite : Setup → Row → Found → Lent → Bool × Lent
+retiredWrite s r (At i) x = (true, x)
+retiredWrite s r Nothing x = withPlaced x (placed s (writeOf s (r .address) (r .word)) (x .buffers))
+
+abbrev pub retiredRow : Setup → ℕ → Row → Lent → Bool × Lent
+retiredRow s position r x =
+    pick (eqb (r .kind) writeKind) (retiredWrite s r (newestWrite s position (r .address) (x .rows)) x) (true, x)
+
+-- in merging mode
+unfoldable pub retired : Setup → ℕ → Lent → Bool × Lent
+retired s position x =
+    pick (eqb (s .mode) 1) (retiredRow s position (rowAt (x .rows) position) x) (true, x)
+
+------------------------------------------------------------------------
+-- 4. Arrival. The operation fills the row of cycle t. It is taken where this answers true.
+
+abbrev pub noted : ℕ → Row → Lent → Lent
+noted position r x = withRows (putRow (x .rows) position r) x
+
+-- the row r, where its entry found a place; dropped, its row is empty
+abbrev pub seated : ℕ → Row → Lent → Bool × Buffers → Bool × Lent
+seated position r x (true, q) = (true, noted position r (withBuffers q x))
+seated position r x (false, q) = (false, noted position emptyRow (withBuffers q x))
+
+-- a read places an entry, and its row waits on itself
+abbrev pub readPlaced : Setup → ℕ → Address → Lent → Bool × Lent
+readPlaced s position a x =
+    seated position (rowOf waitingKind (a .0) 0 position) x (placed s (readOf s position a) (x .buffers))
+
+-- a write there, or a read with its word, gives the word at once; a read still waiting makes the new row wait on the row whose entry is in the buffer
+abbrev pub joined : Address → Row → Row
+joined a r = pick (eqb (r .kind) waitingKind) (rowOf waitingKind (a .0) 0 (r .link)) (rowOf readKind (a .0) (r .word) 0)
+
+-- with nothing live, the read places an entry
+abbrev pub readMerged : Setup → ℕ → Address → Found → Lent → Bool × Lent
+readMerged s position a (At i) x = (true, noted position (joined a (rowAt (x .rows) i)) x)
+readMerged s position a Nothing x = readPlaced s position a x
+
+abbrev pub readArrived : Setup → ℕ → Address → Lent → Bool × Lent
+readArrived s position a x =
+    pick (eqb (s .mode) 1) (readMerged s position a (newestLive s position a (x .rows)) x)
+    (readPlaced s position a x)
+
+-- merging, a write places nothing; plain, it places an entry
+abbrev pub writeArrived : Setup → ℕ → Address → ℕ → Lent → Bool × Lent
+writeArrived s position a w x =
+    pick (eqb (s .mode) 1) (true, noted position (rowOf writeKind (a .0) w 0) x)
+    (seated position (rowOf writeKind (a .0) w 0) x (placed s (writeOf s a w) (x .buffers)))
+
+unfoldable pub arrived : Setup → ℕ → Operation → Lent → Bool × Lent
+arrived s position Idle x = (true, noted position emptyRow x)
+arrived s position (Read a) x = readArrived s position a x
+arrived s position (Write a w) x = writeArrived s position a w x
+
+------------------------------------------------------------------------
+-- The cycle
+
+-- the stamp wraps on purpose; turn and position are kept apart from it
+abbrev pub nextState : Setup → State → State
+nextState s t =
+    record {
+      stamp = (t .stamp + 1) % 2 ^ 32;
+      turn = onward (s .m) (t .turn) 1;
+      position = onward (s .c) (t .position) 1;
+      stopped = t .stopped;
+    }
+
+-- stamp, turn and position stay; the state is marked stopped
+abbrev pub stoppedState : State → State
+stoppedState t = record { stamp = t .stamp; turn = t .turn; position = t .position; stopped = true }
+
+abbrev pub cycled : State → ℕ → Delivery → State → Cycled
+cycled t answer d next = record { state = next; reply = record { answer = answer; delivery = d; stamp = t .stamp } }
+
+-- dropped or not, the cycle passes
+abbrev pub finished : Setup → State → Delivery → Bool × Lent → Cycled × Lent
+finished s t d (taken, x) = (cycled t (pick taken done dropped) d (nextState s t), x)
+
+-- a retiring write that finds its buffer full stops the machine, and arrival is not looked at
+abbrev pub going : Setup → State → Operation → Delivery → Bool × Lent → Cycled × Lent
+going s t op d (true, x) = finished s t d (arrived s (t .position) op x)
+going s t op d (false, x) = (cycled t stopping d (stoppedState t), x)
+
+unfoldable pub passed : Setup → State → Operation → Lent → Cycled × Lent
+passed s t op x =
+    let y = served s (t .turn) x in
+    going s t op (delivered s (t .position) y) (retired s (t .position) y)

@@ -1,0 +1,107 @@
+-- What is lent, and how rows, entries and the heads of the buffers are laid out in it.
+use Prim.Native.Nat.{ℕ, _+_, _-_, _*_}
+use mathlib.Core.List.{List}
+use lib.Dec.{ltb}
+use lib.ListN.{getD, set}
+use Rattle.setup.specs.Choice.{pick}
+use Rattle.model.specs.declared.Row.{Row}
+use Rattle.model.specs.declared.Entry.{Entry}
+
+-- the request buffers. entries: four numbers an entry, K entries a bank. heads: two numbers a bank
+pub record Buffers : Type 0 where
+  pub entries : List ℕ
+  pub heads : List ℕ
+
+-- memory: a word a cell. rows: four numbers a row
+pub record Lent : Type 0 where
+  pub memory : List ℕ
+  pub rows : List ℕ
+  pub buffers : Buffers
+
+abbrev pub buffersIn : List ℕ → List ℕ → Buffers
+buffersIn entries heads = record { entries = entries; heads = heads }
+
+abbrev pub lent : List ℕ → List ℕ → List ℕ → List ℕ → Lent
+lent memory rows entries heads = record { memory = memory; rows = rows; buffers = buffersIn entries heads }
+
+abbrev pub withRows : List ℕ → Lent → Lent
+withRows l x = record { memory = x .memory; rows = l; buffers = x .buffers }
+
+abbrev pub withBuffers : Buffers → Lent → Lent
+withBuffers q x = record { memory = x .memory; rows = x .rows; buffers = q }
+
+------------------------------------------------------------------------
+-- Four numbers at a place
+
+abbrev pub putFour : List ℕ → ℕ → ℕ → ℕ → ℕ → ℕ → List ℕ
+putFour l i a b c d = set (set (set (set l (4 * i) a) (4 * i + 1) b) (4 * i + 2) c) (4 * i + 3) d
+
+------------------------------------------------------------------------
+-- Rows: kind, address, word, link
+
+-- kind 0 is an empty row, 1 a write, 2 a read with its word, 3 a read that waits on the row its link names
+abbrev pub emptyKind : ℕ
+emptyKind = 0
+
+abbrev pub writeKind : ℕ
+writeKind = 1
+
+abbrev pub readKind : ℕ
+readKind = 2
+
+abbrev pub waitingKind : ℕ
+waitingKind = 3
+
+abbrev pub rowOf : ℕ → ℕ → ℕ → ℕ → Row
+rowOf kind address word link = record { kind = kind; address = record { 0 = address }; word = word; link = link }
+
+abbrev pub rowAt : List ℕ → ℕ → Row
+rowAt l i = rowOf (getD l (4 * i) 0) (getD l (4 * i + 1) 0) (getD l (4 * i + 2) 0) (getD l (4 * i + 3) 0)
+
+abbrev pub putRow : List ℕ → ℕ → Row → List ℕ
+putRow l i r = putFour l i (r .kind) (r .address .0) (r .word) (r .link)
+
+abbrev pub emptyRow : Row
+emptyRow = rowOf emptyKind 0 0 0
+
+------------------------------------------------------------------------
+-- Entries: kind, row, cell, word
+
+-- kind 0 is a read for a row, 1 a write of a word
+abbrev pub readEntry : ℕ
+readEntry = 0
+
+abbrev pub writeEntry : ℕ
+writeEntry = 1
+
+abbrev pub entryOf : ℕ → ℕ → ℕ → ℕ → Entry
+entryOf kind row cell word = record { kind = kind; row = row; cell = record { 0 = cell }; word = word }
+
+abbrev pub entryAt : List ℕ → ℕ → Entry
+entryAt l i = entryOf (getD l (4 * i) 0) (getD l (4 * i + 1) 0) (getD l (4 * i + 2) 0) (getD l (4 * i + 3) 0)
+
+abbrev pub putEntry : List ℕ → ℕ → Entry → List ℕ
+putEntry l i e = putFour l i (e .kind) (e .row) (e .cell .0) (e .word)
+
+------------------------------------------------------------------------
+-- Heads: the place of a buffer's oldest entry, and its count
+
+abbrev pub oldestOf : List ℕ → ℕ → ℕ
+oldestOf heads b = getD heads (2 * b) 0
+
+abbrev pub countOf : List ℕ → ℕ → ℕ
+countOf heads b = getD heads (2 * b + 1) 0
+
+abbrev pub putHead : List ℕ → ℕ → ℕ → ℕ → List ℕ
+putHead heads b oldest count = set (set heads (2 * b) oldest) (2 * b + 1) count
+
+------------------------------------------------------------------------
+-- Places that go round
+
+-- n places on from i, of c
+abbrev pub onward : ℕ → ℕ → ℕ → ℕ
+onward c i n = pick (ltb (i + n) c) (i + n) (i + n - c)
+
+-- n places back from i, of c
+abbrev pub back : ℕ → ℕ → ℕ → ℕ
+back c i n = pick (ltb i n) (i + c - n) (i - n)

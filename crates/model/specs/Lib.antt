@@ -1,0 +1,5 @@
+pub mod Lent
+pub mod Cycle
+pub mod Range
+pub mod Calls
+pub mod Runs

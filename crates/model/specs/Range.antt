@@ -1,0 +1,87 @@
+-- What the answers 2 and 3 look at.
+use Prim.Native.Nat.{ℕ, zero, suc, _+_, _*_, _<_}
+use mathlib.Core.Bool.{Bool, true, false, not, _&&_, _||_}
+use mathlib.Core.List.{List}
+use lib.Dec.{leb, ltb, eqb}
+use lib.ListN.{length}
+use mathlib.Core.Path.{_≡_}
+use Rattle.setup.specs.Setup.{Ranges, wordsOf, banksOf}
+use Rattle.setup.specs.declared.Setup.{Setup}
+use Rattle.model.specs.declared.State.{State}
+use Rattle.model.specs.declared.Row.{Row}
+use Rattle.model.specs.declared.Entry.{Entry}
+use Rattle.model.specs.Lent.{Lent, Buffers, emptyKind, waitingKind, rowAt, readEntry, writeEntry, entryAt, oldestOf, countOf, onward}
+
+-- memory of N words, room for C rows and room for B·K entries, and two numbers a bank; every length must be exact
+abbrev pub lengthsOk : Setup → Lent → Bool
+lengthsOk s x =
+    eqb (length (x .memory)) (wordsOf s)
+    && eqb (length (x .rows)) (4 * s .c)
+    && eqb (length (x .buffers .entries)) (4 * (banksOf s * s .k))
+    && eqb (length (x .buffers .heads)) (2 * banksOf s)
+
+-- a row's kind is one of the four; an address in it below N; a row named by it below C
+abbrev pub rowOk : Setup → Row → Bool
+rowOk s r =
+    leb (r .kind) waitingKind
+    && (eqb (r .kind) emptyKind || ltb (r .address .0) (wordsOf s))
+    && (not (eqb (r .kind) waitingKind) || ltb (r .link) (s .c))
+
+-- the rows below i
+unfoldable pub rowsOk : Setup → List ℕ → ℕ → Bool
+rowsOk s rows zero = true
+rowsOk s rows (suc i) = rowsOk s rows i && rowOk s (rowAt rows i)
+
+-- a waiting entry's kind is one of the two; its cell below N; a row named by it below C
+abbrev pub entryOk : Setup → Entry → Bool
+entryOk s e =
+    leb (e .kind) writeEntry
+    && ltb (e .cell .0) (wordsOf s)
+    && (not (eqb (e .kind) readEntry) || ltb (e .row) (s .c))
+
+-- entry i of those that wait at bank b, the oldest first
+abbrev pub waitingEntry : Setup → Buffers → ℕ → ℕ → Entry
+waitingEntry s q b i = entryAt (q .entries) (b * s .k + onward (s .k) (oldestOf (q .heads) b) i)
+
+-- the oldest i of them
+unfoldable pub entriesOk : Setup → Buffers → ℕ → ℕ → Bool
+entriesOk s q b zero = true
+entriesOk s q b (suc i) = entriesOk s q b i && entryOk s (waitingEntry s q b i)
+
+-- oldest place below K, count at most K
+abbrev pub headOk : Setup → List ℕ → ℕ → Bool
+headOk s heads b = ltb (oldestOf heads b) (s .k) && leb (countOf heads b) (s .k)
+
+abbrev pub bufferOk : Setup → Buffers → ℕ → Bool
+bufferOk s q b = headOk s (q .heads) b && entriesOk s q b (countOf (q .heads) b)
+
+-- the buffers of the banks below b
+unfoldable pub buffersOk : Setup → Buffers → ℕ → Bool
+buffersOk s q zero = true
+buffersOk s q (suc b) = buffersOk s q b && bufferOk s q b
+
+-- turn below m; row position below C; every row; each of the B buffers
+abbrev pub numbersOk : Setup → State → Lent → Bool
+numbersOk s t x =
+    (ltb (t .turn) (s .m) && ltb (t .position) (s .c))
+    && rowsOk s (x .rows) (s .c)
+    && buffersOk s (x .buffers) (banksOf s)
+
+------------------------------------------------------------------------
+-- What a call knows of the lent slices once 1, 2 and 3 are past
+
+pub record Good (s : Setup) (x : Lent) : Type 0 where
+  pub ranges : Ranges s
+  pub memory-long : length (x .memory) ≡ wordsOf s
+  pub rows-long : length (x .rows) ≡ 4 * s .c
+  pub entries-long : length (x .buffers .entries) ≡ 4 * (banksOf s * s .k)
+  pub heads-long : length (x .buffers .heads) ≡ 2 * banksOf s
+  pub rows-ok : (i : ℕ) → i < s .c → rowOk s (rowAt (x .rows) i) ≡ true
+  pub heads-ok : (b : ℕ) → b < banksOf s → headOk s (x .buffers .heads) b ≡ true
+  pub entries-ok : (b i : ℕ) → b < banksOf s → i < countOf (x .buffers .heads) b → entryOk s (waitingEntry s (x .buffers) b i) ≡ true
+
+-- and of the state
+pub record Ready (s : Setup) (t : State) (x : Lent) : Type 0 where
+  pub good : Good s x
+  pub turn : t .turn < s .m
+  pub position : t .position < s .c

@@ -1,0 +1,77 @@
+// What the machine keeps: its state, its rows and its entries; and what its calls return.
+use map::Address;
+use map::Cell;
+use port::Reply;
+
+// The state goes in and comes back by value; everything else is lent.
+pub struct State {
+    // The cycle number modulo 2^32.
+    pub stamp: u32,
+    // The cycle number modulo m, kept apart from the stamp.
+    pub turn: u32,
+    // The place of this cycle's row, kept apart from the stamp.
+    pub position: u32,
+    pub stopped: bool,
+}
+
+// A row of the reservation table: four numbers of the lent row room.
+pub struct Row {
+    pub kind: u32,
+    pub address: Address,
+    pub word: u32,
+    pub link: u32,
+}
+
+impl Row {
+    pub const NUMBERS: usize = 4;
+
+    pub const EMPTY: u32 = 0;
+
+    pub const WRITE: u32 = 1;
+
+    // A read with its word.
+    pub const READ: u32 = 2;
+
+    // A read still lacking its word: its link is the row whose entry is in the buffer.
+    pub const WAITING: u32 = 3;
+}
+
+// An entry of a request buffer: four numbers of the lent entry room.
+pub struct Entry {
+    pub kind: u32,
+    pub row: u32,
+    pub cell: Cell,
+    pub word: u32,
+}
+
+impl Entry {
+    pub const NUMBERS: usize = 4;
+
+    pub const READ: u32 = 0;
+
+    pub const WRITE: u32 = 1;
+}
+
+// What a lookup in the table answers: a row's place, or that nothing is live.
+pub enum Found {
+    At(usize),
+    Nothing,
+}
+
+// What a cycle returns.
+pub struct Cycled {
+    pub state: State,
+    pub reply: Reply,
+}
+
+// What a fresh start returns.
+pub struct Started {
+    pub answer: u32,
+    pub state: State,
+}
+
+// What a question returns: how many entries wait at one bank.
+pub struct Waiting {
+    pub answer: u32,
+    pub count: u32,
+}

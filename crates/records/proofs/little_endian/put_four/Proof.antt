@@ -1,0 +1,31 @@
+use borrow.Author.Needs.{needs}
+use Rattle.records.proofs.Numbers.{stored-four}
+use Rattle.records.proofs.little_endian.put_four.Statement.{statement}
+use Rattle.records.proofs.little_endian.put_four.Tie as tie
+use Rattle.records.proofs.little_endian.put_four.Reads as reads
+use Rattle.records.proofs.little_endian.put_four.Lts as lts
+use Rattle.records.proofs.little_endian.put_two.Reads as put-two-reads
+
+-- src/little_endian.rt:56:5
+put-two-requires : tie.Need-put-two-requires
+put-two-requires c κs = search needs
+
+-- src/little_endian.rt:57:19
+add-put-two : tie.Need-add-put-two
+add-put-two c = search needs
+
+-- src/little_endian.rt:57:5
+put-two-requires-2 : tie.Need-put-two-requires-2
+put-two-requires-2 c κs = search needs
+
+-- src/little_endian.rt:52:1
+same-length : tie.Need-same-length
+same-length c = search needs
+
+-- src/little_endian.rt:52:1
+returns : tie.Need-returns
+returns c = search (stored-four)
+
+pub put-four-spec : {M : Type 1} → statement M
+put-four-spec =
+    tie.close (tie.spec put-two-requires add-put-two put-two-requires-2 same-length returns)

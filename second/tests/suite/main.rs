@@ -1,0 +1,12 @@
+//! The tests of the second program.
+
+mod bench;
+mod commands;
+mod demands;
+mod examples;
+mod generator;
+mod one_cycle;
+mod records;
+mod said;
+mod setups;
+mod text;
