@@ -39,7 +39,6 @@ pub record Example : Type 0 where
   pub expected : Told
 
 infixl 20 _gives_
-
 abbrev pub _gives_ : Asked → Told → Example
 q gives t = record { asked = q; expected = t }
 

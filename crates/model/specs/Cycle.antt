@@ -20,7 +20,7 @@ use Rattle.model.specs.declared.Entry.{Entry}
 use Rattle.model.specs.declared.Found.{Found}
 use Rattle.model.specs.declared.Found.the-variants.{At, Nothing}
 use Rattle.model.specs.declared.Cycled.{Cycled}
-use Rattle.model.specs.Lent.{Lent, Buffers, buffersIn, withRows, withBuffers, emptyKind, writeKind, readKind, waitingKind, rowOf, rowAt, putRow, emptyRow, readEntry, writeEntry, entryOf, entryAt, putEntry, oldestOf, countOf, putHead, onward, back}
+use Rattle.model.specs.Lent.{Lent, Buffers, buffersIn, withRows, withBuffers, emptyKind, writeKind, readKind, waitingKind, rowWith, rowAt, putRow, emptyRow, readEntry, writeEntry, entryWith, entryAt, putEntry, oldestOf, countOf, putHead, onward, back}
 
 ------------------------------------------------------------------------
 -- 1. Service. Each bank b with b mod m = t mod m, in rising b, takes the oldest entry of its buffer, if any.
@@ -30,7 +30,7 @@ abbrev pub lacks : ℕ → ℕ → Row → Bool
 lacks p i r = eqb (r .kind) waitingKind && (eqb i p || eqb (r .link) p)
 
 abbrev pub withWord : Row → ℕ → Row
-withWord r w = rowOf readKind (r .address .0) w 0
+withWord r w = rowWith readKind (r .address .0) w 0
 
 abbrev pub filledRow : ℕ → ℕ → ℕ → List ℕ → List ℕ
 filledRow p w i rows = pick (lacks p i (rowAt rows i)) (putRow rows i (withWord (rowAt rows i) w)) rows
@@ -123,10 +123,10 @@ placed s e q =
 
 -- write entries carry their own cell and word
 abbrev pub writeOf : Setup → Address → ℕ → Entry
-writeOf s a w = entryOf writeEntry 0 (cellOf s a .0) w
+writeOf s a w = entryWith writeEntry 0 (cellOf s a .0) w
 
 abbrev pub readOf : Setup → ℕ → Address → Entry
-readOf s position a = entryOf readEntry position (cellOf s a .0) 0
+readOf s position a = entryWith readEntry position (cellOf s a .0) 0
 
 ------------------------------------------------------------------------
 -- 3. Retirement. The row filled at t − C is given up.
@@ -162,11 +162,11 @@ seated position r x (false, q) = (false, noted position emptyRow (withBuffers q 
 -- a read places an entry, and its row waits on itself
 abbrev pub readPlaced : Setup → ℕ → Address → Lent → Bool × Lent
 readPlaced s position a x =
-    seated position (rowOf waitingKind (a .0) 0 position) x (placed s (readOf s position a) (x .buffers))
+    seated position (rowWith waitingKind (a .0) 0 position) x (placed s (readOf s position a) (x .buffers))
 
 -- a write there, or a read with its word, gives the word at once; a read still waiting makes the new row wait on the row whose entry is in the buffer
 abbrev pub joined : Address → Row → Row
-joined a r = pick (eqb (r .kind) waitingKind) (rowOf waitingKind (a .0) 0 (r .link)) (rowOf readKind (a .0) (r .word) 0)
+joined a r = pick (eqb (r .kind) waitingKind) (rowWith waitingKind (a .0) 0 (r .link)) (rowWith readKind (a .0) (r .word) 0)
 
 -- with nothing live, the read places an entry
 abbrev pub readMerged : Setup → ℕ → Address → Found → Lent → Bool × Lent
@@ -181,8 +181,8 @@ readArrived s position a x =
 -- merging, a write places nothing; plain, it places an entry
 abbrev pub writeArrived : Setup → ℕ → Address → ℕ → Lent → Bool × Lent
 writeArrived s position a w x =
-    pick (eqb (s .mode) 1) (true, noted position (rowOf writeKind (a .0) w 0) x)
-    (seated position (rowOf writeKind (a .0) w 0) x (placed s (writeOf s a w) (x .buffers)))
+    pick (eqb (s .mode) 1) (true, noted position (rowWith writeKind (a .0) w 0) x)
+    (seated position (rowWith writeKind (a .0) w 0) x (placed s (writeOf s a w) (x .buffers)))
 
 unfoldable pub arrived : Setup → ℕ → Operation → Lent → Bool × Lent
 arrived s position Idle x = (true, noted position emptyRow x)

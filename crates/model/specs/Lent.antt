@@ -52,17 +52,17 @@ readKind = 2
 abbrev pub waitingKind : ℕ
 waitingKind = 3
 
-abbrev pub rowOf : ℕ → ℕ → ℕ → ℕ → Row
-rowOf kind address word link = record { kind = kind; address = record { 0 = address }; word = word; link = link }
+abbrev pub rowWith : ℕ → ℕ → ℕ → ℕ → Row
+rowWith kind address word link = record { kind = kind; address = record { 0 = address }; word = word; link = link }
 
 abbrev pub rowAt : List ℕ → ℕ → Row
-rowAt l i = rowOf (getD l (4 * i) 0) (getD l (4 * i + 1) 0) (getD l (4 * i + 2) 0) (getD l (4 * i + 3) 0)
+rowAt l i = rowWith (getD l (4 * i) 0) (getD l (4 * i + 1) 0) (getD l (4 * i + 2) 0) (getD l (4 * i + 3) 0)
 
 abbrev pub putRow : List ℕ → ℕ → Row → List ℕ
 putRow l i r = putFour l i (r .kind) (r .address .0) (r .word) (r .link)
 
 abbrev pub emptyRow : Row
-emptyRow = rowOf emptyKind 0 0 0
+emptyRow = rowWith emptyKind 0 0 0
 
 ------------------------------------------------------------------------
 -- Entries: kind, row, cell, word
@@ -74,11 +74,11 @@ readEntry = 0
 abbrev pub writeEntry : ℕ
 writeEntry = 1
 
-abbrev pub entryOf : ℕ → ℕ → ℕ → ℕ → Entry
-entryOf kind row cell word = record { kind = kind; row = row; cell = record { 0 = cell }; word = word }
+abbrev pub entryWith : ℕ → ℕ → ℕ → ℕ → Entry
+entryWith kind row cell word = record { kind = kind; row = row; cell = record { 0 = cell }; word = word }
 
 abbrev pub entryAt : List ℕ → ℕ → Entry
-entryAt l i = entryOf (getD l (4 * i) 0) (getD l (4 * i + 1) 0) (getD l (4 * i + 2) 0) (getD l (4 * i + 3) 0)
+entryAt l i = entryWith (getD l (4 * i) 0) (getD l (4 * i + 1) 0) (getD l (4 * i + 2) 0) (getD l (4 * i + 3) 0)
 
 abbrev pub putEntry : List ℕ → ℕ → Entry → List ℕ
 putEntry l i e = putFour l i (e .kind) (e .row) (e .cell .0) (e .word)

@@ -20,24 +20,24 @@ lengthsOk s x =
     && eqb (length (x .buffers .entries)) (4 * (banksOf s * s .k))
     && eqb (length (x .buffers .heads)) (2 * banksOf s)
 
--- a row's kind is one of the four; an address in it below N; a row named by it below C
-abbrev pub rowOk : Setup → Row → Bool
-rowOk s r =
+-- of n words and c rows: a row's kind is one of the four; an address in it below n; a row named by it below c
+abbrev pub rowOk : ℕ → ℕ → Row → Bool
+rowOk n c r =
     leb (r .kind) waitingKind
-    && (eqb (r .kind) emptyKind || ltb (r .address .0) (wordsOf s))
-    && (not (eqb (r .kind) waitingKind) || ltb (r .link) (s .c))
+    && (eqb (r .kind) emptyKind || ltb (r .address .0) n)
+    && (not (eqb (r .kind) waitingKind) || ltb (r .link) c)
 
 -- the rows below i
-unfoldable pub rowsOk : Setup → List ℕ → ℕ → Bool
-rowsOk s rows zero = true
-rowsOk s rows (suc i) = rowsOk s rows i && rowOk s (rowAt rows i)
+unfoldable pub rowsOk : ℕ → ℕ → List ℕ → ℕ → Bool
+rowsOk n c rows zero = true
+rowsOk n c rows (suc i) = rowsOk n c rows i && rowOk n c (rowAt rows i)
 
--- a waiting entry's kind is one of the two; its cell below N; a row named by it below C
-abbrev pub entryOk : Setup → Entry → Bool
-entryOk s e =
+-- a waiting entry's kind is one of the two; its cell below n; a row named by it below c
+abbrev pub entryOk : ℕ → ℕ → Entry → Bool
+entryOk n c e =
     leb (e .kind) writeEntry
-    && ltb (e .cell .0) (wordsOf s)
-    && (not (eqb (e .kind) readEntry) || ltb (e .row) (s .c))
+    && ltb (e .cell .0) n
+    && (not (eqb (e .kind) readEntry) || ltb (e .row) c)
 
 -- entry i of those that wait at bank b, the oldest first
 abbrev pub waitingEntry : Setup → Buffers → ℕ → ℕ → Entry
@@ -46,7 +46,7 @@ waitingEntry s q b i = entryAt (q .entries) (b * s .k + onward (s .k) (oldestOf 
 -- the oldest i of them
 unfoldable pub entriesOk : Setup → Buffers → ℕ → ℕ → Bool
 entriesOk s q b zero = true
-entriesOk s q b (suc i) = entriesOk s q b i && entryOk s (waitingEntry s q b i)
+entriesOk s q b (suc i) = entriesOk s q b i && entryOk (wordsOf s) (s .c) (waitingEntry s q b i)
 
 -- oldest place below K, count at most K
 abbrev pub headOk : Setup → List ℕ → ℕ → Bool
@@ -64,7 +64,7 @@ buffersOk s q (suc b) = buffersOk s q b && bufferOk s q b
 abbrev pub numbersOk : Setup → State → Lent → Bool
 numbersOk s t x =
     (ltb (t .turn) (s .m) && ltb (t .position) (s .c))
-    && rowsOk s (x .rows) (s .c)
+    && rowsOk (wordsOf s) (s .c) (x .rows) (s .c)
     && buffersOk s (x .buffers) (banksOf s)
 
 ------------------------------------------------------------------------
@@ -76,9 +76,9 @@ pub record Good (s : Setup) (x : Lent) : Type 0 where
   pub rows-long : length (x .rows) ≡ 4 * s .c
   pub entries-long : length (x .buffers .entries) ≡ 4 * (banksOf s * s .k)
   pub heads-long : length (x .buffers .heads) ≡ 2 * banksOf s
-  pub rows-ok : (i : ℕ) → i < s .c → rowOk s (rowAt (x .rows) i) ≡ true
+  pub rows-ok : (i : ℕ) → i < s .c → rowOk (wordsOf s) (s .c) (rowAt (x .rows) i) ≡ true
   pub heads-ok : (b : ℕ) → b < banksOf s → headOk s (x .buffers .heads) b ≡ true
-  pub entries-ok : (b i : ℕ) → b < banksOf s → i < countOf (x .buffers .heads) b → entryOk s (waitingEntry s (x .buffers) b i) ≡ true
+  pub entries-ok : (b i : ℕ) → b < banksOf s → i < countOf (x .buffers .heads) b → entryOk (wordsOf s) (s .c) (waitingEntry s (x .buffers) b i) ≡ true
 
 -- and of the state
 pub record Ready (s : Setup) (t : State) (x : Lent) : Type 0 where

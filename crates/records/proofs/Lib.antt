@@ -1,3 +1,4 @@
 pub mod Numbers
 pub mod Operation
 pub mod Setup
+pub mod RoundTrip

@@ -1,13 +1,13 @@
 -- Little-endian numbers, over the width: what the leaf functions read and store, and that the two turn each other round.
 -- Assumes nothing.
-use Prim.Native.Nat.{ℕ, zero, suc, _+_, _*_, _/_, _%_, _^_, _<_}
+use Prim.Native.Nat.{ℕ, zero, suc, _+_, _*_, _/_, _%_, _^_, _≤_, _<_}
 use mathlib.Core.Path.{_≡_, refl, sym, ap, _∙_}
 use mathlib.Core.List.{List, [], _∷_, _++_, append-nil}
-use native.Mathlib.Nat.{zero-add}
+use native.Mathlib.Nat.{zero-add, add-zero, pow-suc}
 use native.Mathlib.Numerals.{add-one, add-two}
 use native.Mathlib.Omega.{arith}
-use lib.ListN.{length, getD, set}
-use lib.Seq.{sets, sets-eq, drop-length}
+use lib.ListN.{length, getD, set, drop}
+use lib.Seq.{sets, sets-eq, drop-length, drop-cons, drop-drop, getD-drop}
 use Rattle.records.specs.Records.{base, byteAt, numberAt, bytesOf}
 
 ------------------------------------------------------------------------
@@ -34,3 +34,34 @@ module _ (room : List ℕ) (at x : ℕ) where
 -- bytes stored over a whole room are what it then holds
 pub filled : (room bytes : List ℕ) → length room ≡ length bytes → sets room 0 bytes ≡ bytes
 filled room bytes h = sets-eq bytes room 0 (omega arith) ∙ rw (zero-add (length bytes), ← h, drop-length room) (append-nil bytes)
+
+------------------------------------------------------------------------
+-- The round trip of one number of n bytes
+
+-- the number from i is the one at the front of what is left there
+from-front : (n : ℕ) (s : List ℕ) (i : ℕ) → numberAt n s i ≡ numberAt n (drop i s) 0
+unfolding numberAt
+from-front zero s i = refl
+from-front (suc n) s i = rw (getD-drop i s 0 0, add-zero i, from-front n s (suc i), from-front n (drop i s) 1, drop-drop 1 i s, add-one i)
+
+front : (n x : ℕ) (rest : List ℕ) → x < base ^ n → numberAt n (bytesOf n x ++ rest) 0 ≡ x
+unfolding numberAt bytesOf
+front zero x rest h = omega arith
+front (suc n) x rest h =
+    let l : x / base < base ^ n = omega (arith, pow-suc base n) in
+    rw (from-front n (x % base ∷ (bytesOf n (x / base) ++ rest)) 1, front n (x / base) rest l) (omega arith)
+
+-- what is read where the n bytes of x stand is x
+pub number-bytes : (n x : ℕ) (s rest : List ℕ) (i : ℕ) → x < base ^ n → drop i s ≡ bytesOf n x ++ rest → numberAt n s i ≡ x
+number-bytes n x s rest i h e = from-front n s i ∙ rw e (front n x rest h)
+
+-- the bytes of what is read from i are the bytes there
+pub bytes-number : (n : ℕ) (s : List ℕ) (i : ℕ) → ((j : ℕ) → byteAt s j < base) → i + n ≤ length s → bytesOf n (numberAt n s i) ++ drop (i + n) s ≡ drop i s
+unfolding numberAt bytesOf
+bytes-number zero s i b h = rw (add-zero i)
+bytes-number (suc n) s i b h =
+    let m : ℕ = numberAt n s (suc i) in
+    let low : (byteAt s i + base * m) % base ≡ byteAt s i = omega (arith, b i) in
+    let high : (byteAt s i + base * m) / base ≡ m = omega (arith, b i) in
+    let k : i + suc n ≡ suc i + n = omega arith in
+    rw (low, high, k, bytes-number n s (suc i) b (omega arith)) (sym (drop-cons s i 0 (omega arith)))

@@ -6,11 +6,13 @@ ghost use lib.ListN.{length};
 ghost use lib.Seq.{sets};
 ghost use Rattle.answers.specs.Answers.{done};
 ghost use Rattle.records.specs.Records.{bytesOf, zeros, operationSize, goodIf, operationIn, operationOf, operationBytesOf, operationWritten, setupSize, setupIn, allowed, setupOf, setupBytes, setupWritten};
+
 mod little_endian;
-use little_endian::put_two;
-use little_endian::put_four;
-use little_endian::two_at;
+
 use little_endian::four_at;
+use little_endian::put_four;
+use little_endian::put_two;
+use little_endian::two_at;
 use map::Address;
 use port::Operation;
 use setup::Checked;
@@ -59,7 +61,11 @@ const V_AT: usize = 16;
 fn good_if(good: bool, op: Operation) -> OperationRecord
     ensures { λ r. ⌜ r ≡ goodIf good op ⌝ }
 {
-    if good { OperationRecord::Good(op) } else { OperationRecord::Bad }
+    if good {
+        OperationRecord::Good(op)
+    } else {
+        OperationRecord::Bad
+    }
 }
 
 // The operation of a kind, an address and a word.
