@@ -20,7 +20,7 @@ use Rattle.model.specs.declared.Entry.{Entry}
 use Rattle.model.specs.declared.Found.{Found}
 use Rattle.model.specs.declared.Found.the-variants.{At, Nothing}
 use Rattle.model.specs.declared.Cycled.{Cycled}
-use Rattle.model.specs.Lent.{Lent, Buffers, buffersIn, withRows, withBuffers, emptyKind, writeKind, readKind, waitingKind, rowWith, rowAt, putRow, emptyRow, readEntry, writeEntry, entryWith, entryAt, putEntry, oldestOf, countOf, putHead, onward, back}
+use Rattle.model.specs.Lent.{Lent, Buffers, buffersIn, emptyKind, writeKind, readKind, waitingKind, rowWith, rowAt, putRow, emptyRow, readEntry, writeEntry, entryWith, entryAt, putEntry, oldestOf, countOf, putHead, onward, back}
 
 ------------------------------------------------------------------------
 -- 1. Service. Each bank b with b mod m = t mod m, in rising b, takes the oldest entry of its buffer, if any.
@@ -82,8 +82,8 @@ served s turn x = servedBelow s turn (banksOf s) x
 abbrev pub leaves : Row → Delivery
 leaves r = pick (eqb (r .kind) readKind) (Word (r .word)) (pick (eqb (r .kind) waitingKind) Unready None)
 
-abbrev pub delivered : Setup → ℕ → Lent → Delivery
-delivered s position x = leaves (rowAt (x .rows) (back (s .c) position (s .delta)))
+abbrev pub delivered : Setup → ℕ → List ℕ → Delivery
+delivered s position rows = leaves (rowAt rows (back (s .c) position (s .delta)))
 
 ------------------------------------------------------------------------
 -- Looking back through the table, newest first, and placing an entry
@@ -131,63 +131,63 @@ readOf s position a = entryWith readEntry position (cellOf s a .0) 0
 ------------------------------------------------------------------------
 -- 3. Retirement. The row filled at t − C is given up.
 
-abbrev pub withPlaced : Lent → Bool × Buffers → Bool × Lent
-withPlaced x (there, q) = (there, withBuffers q x)
-
 -- a write, if no newer live row is a write to its address, is placed in its bank's buffer; false where that is full
-abbrev pub retiredWrite : Setup → Row → Found → Lent → Bool × Lent
-retiredWrite s r (At i) x = (true, x)
-retiredWrite s r Nothing x = withPlaced x (placed s (writeOf s (r .address) (r .word)) (x .buffers))
+abbrev pub retiredWrite : Setup → Row → Found → Buffers → Bool × Buffers
+retiredWrite s r (At i) q = (true, q)
+retiredWrite s r Nothing q = placed s (writeOf s (r .address) (r .word)) q
 
-abbrev pub retiredRow : Setup → ℕ → Row → Lent → Bool × Lent
-retiredRow s position r x =
-    pick (eqb (r .kind) writeKind) (retiredWrite s r (newestWrite s position (r .address) (x .rows)) x) (true, x)
+abbrev pub retiredRow : Setup → ℕ → Row → List ℕ → Buffers → Bool × Buffers
+retiredRow s position r rows q =
+    pick (eqb (r .kind) writeKind) (retiredWrite s r (newestWrite s position (r .address) rows) q) (true, q)
 
 -- in merging mode
-unfoldable pub retired : Setup → ℕ → Lent → Bool × Lent
-retired s position x =
-    pick (eqb (s .mode) 1) (retiredRow s position (rowAt (x .rows) position) x) (true, x)
+unfoldable pub retired : Setup → ℕ → List ℕ → Buffers → Bool × Buffers
+retired s position rows q = pick (eqb (s .mode) 1) (retiredRow s position (rowAt rows position) rows q) (true, q)
 
 ------------------------------------------------------------------------
 -- 4. Arrival. The operation fills the row of cycle t. It is taken where this answers true.
 
-abbrev pub noted : ℕ → Row → Lent → Lent
-noted position r x = withRows (putRow (x .rows) position r) x
+-- the rows and the buffers, and whether the operation is taken
+abbrev pub Arrived : Type 0
+Arrived = Bool × (List ℕ × Buffers)
+
+abbrev pub noted : ℕ → Row → List ℕ → Buffers → Arrived
+noted position r rows q = (true, (putRow rows position r, q))
 
 -- the row r, where its entry found a place; dropped, its row is empty
-abbrev pub seated : ℕ → Row → Lent → Bool × Buffers → Bool × Lent
-seated position r x (true, q) = (true, noted position r (withBuffers q x))
-seated position r x (false, q) = (false, noted position emptyRow (withBuffers q x))
+abbrev pub seated : ℕ → Row → List ℕ → Bool × Buffers → Arrived
+seated position r rows (true, q) = (true, (putRow rows position r, q))
+seated position r rows (false, q) = (false, (putRow rows position emptyRow, q))
 
 -- a read places an entry, and its row waits on itself
-abbrev pub readPlaced : Setup → ℕ → Address → Lent → Bool × Lent
-readPlaced s position a x =
-    seated position (rowWith waitingKind (a .0) 0 position) x (placed s (readOf s position a) (x .buffers))
+abbrev pub readPlaced : Setup → ℕ → Address → List ℕ → Buffers → Arrived
+readPlaced s position a rows q =
+    seated position (rowWith waitingKind (a .0) 0 position) rows (placed s (readOf s position a) q)
 
 -- a write there, or a read with its word, gives the word at once; a read still waiting makes the new row wait on the row whose entry is in the buffer
 abbrev pub joined : Address → Row → Row
 joined a r = pick (eqb (r .kind) waitingKind) (rowWith waitingKind (a .0) 0 (r .link)) (rowWith readKind (a .0) (r .word) 0)
 
 -- with nothing live, the read places an entry
-abbrev pub readMerged : Setup → ℕ → Address → Found → Lent → Bool × Lent
-readMerged s position a (At i) x = (true, noted position (joined a (rowAt (x .rows) i)) x)
-readMerged s position a Nothing x = readPlaced s position a x
+abbrev pub readMerged : Setup → ℕ → Address → Found → List ℕ → Buffers → Arrived
+readMerged s position a (At i) rows q = noted position (joined a (rowAt rows i)) rows q
+readMerged s position a Nothing rows q = readPlaced s position a rows q
 
-abbrev pub readArrived : Setup → ℕ → Address → Lent → Bool × Lent
-readArrived s position a x =
-    pick (eqb (s .mode) 1) (readMerged s position a (newestLive s position a (x .rows)) x)
-    (readPlaced s position a x)
+abbrev pub readArrived : Setup → ℕ → Address → List ℕ → Buffers → Arrived
+readArrived s position a rows q =
+    pick (eqb (s .mode) 1) (readMerged s position a (newestLive s position a rows) rows q)
+    (readPlaced s position a rows q)
 
 -- merging, a write places nothing; plain, it places an entry
-abbrev pub writeArrived : Setup → ℕ → Address → ℕ → Lent → Bool × Lent
-writeArrived s position a w x =
-    pick (eqb (s .mode) 1) (true, noted position (rowWith writeKind (a .0) w 0) x)
-    (seated position (rowWith writeKind (a .0) w 0) x (placed s (writeOf s a w) (x .buffers)))
+abbrev pub writeArrived : Setup → ℕ → Address → ℕ → List ℕ → Buffers → Arrived
+writeArrived s position a w rows q =
+    pick (eqb (s .mode) 1) (noted position (rowWith writeKind (a .0) w 0) rows q)
+    (seated position (rowWith writeKind (a .0) w 0) rows (placed s (writeOf s a w) q))
 
-unfoldable pub arrived : Setup → ℕ → Operation → Lent → Bool × Lent
-arrived s position Idle x = (true, noted position emptyRow x)
-arrived s position (Read a) x = readArrived s position a x
-arrived s position (Write a w) x = writeArrived s position a w x
+unfoldable pub arrived : Setup → ℕ → Operation → List ℕ → Buffers → Arrived
+arrived s position Idle rows q = noted position emptyRow rows q
+arrived s position (Read a) rows q = readArrived s position a rows q
+arrived s position (Write a w) rows q = writeArrived s position a w rows q
 
 ------------------------------------------------------------------------
 -- The cycle
@@ -210,15 +210,16 @@ abbrev pub cycled : State → ℕ → Delivery → State → Cycled
 cycled t answer d next = record { state = next; reply = record { answer = answer; delivery = d; stamp = t .stamp } }
 
 -- dropped or not, the cycle passes
-abbrev pub finished : Setup → State → Delivery → Bool × Lent → Cycled × Lent
-finished s t d (taken, x) = (cycled t (pick taken done dropped) d (nextState s t), x)
+abbrev pub finished : Setup → State → Delivery → List ℕ → Arrived → Cycled × Lent
+finished s t d memory (taken, (rows, q)) =
+    (cycled t (pick taken done dropped) d (nextState s t), record { memory = memory; rows = rows; buffers = q })
 
 -- a retiring write that finds its buffer full stops the machine, and arrival is not looked at
-abbrev pub going : Setup → State → Operation → Delivery → Bool × Lent → Cycled × Lent
-going s t op d (true, x) = finished s t d (arrived s (t .position) op x)
-going s t op d (false, x) = (cycled t stopping d (stoppedState t), x)
+abbrev pub going : Setup → State → Operation → Delivery → Lent → Bool × Buffers → Cycled × Lent
+going s t op d x (true, q) = finished s t d (x .memory) (arrived s (t .position) op (x .rows) q)
+going s t op d x (false, q) = (cycled t stopping d (stoppedState t), x)
 
 unfoldable pub passed : Setup → State → Operation → Lent → Cycled × Lent
 passed s t op x =
     let y = served s (t .turn) x in
-    going s t op (delivered s (t .position) y) (retired s (t .position) y)
+    going s t op (delivered s (t .position) (y .rows)) y (retired s (t .position) (y .rows) (y .buffers))

@@ -24,12 +24,6 @@ buffersIn entries heads = record { entries = entries; heads = heads }
 abbrev pub lent : List ℕ → List ℕ → List ℕ → List ℕ → Lent
 lent memory rows entries heads = record { memory = memory; rows = rows; buffers = buffersIn entries heads }
 
-abbrev pub withRows : List ℕ → Lent → Lent
-withRows l x = record { memory = x .memory; rows = l; buffers = x .buffers }
-
-abbrev pub withBuffers : Buffers → Lent → Lent
-withBuffers q x = record { memory = x .memory; rows = x .rows; buffers = q }
-
 ------------------------------------------------------------------------
 -- Four numbers at a place
 
