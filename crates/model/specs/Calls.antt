@@ -55,7 +55,7 @@ addressOk s (Write a w) = ltb (a .0) (wordsOf s)
 unfoldable pub refusalOf : Setup → State → Operation → Lent → ℕ
 refusalOf s t op x =
     pick (lengthsOk s x)
-    (pick (numbersOk s t x) (pick (t .stopped) stopped (pick (addressOk s op) done badAddress)) badState)
+    (pick (numbersOk s t (x .rows) (x .buffers)) (pick (t .stopped) stopped (pick (addressOk s op) done badAddress)) badState)
     badLength
 
 -- delivery none and stamp 0, and nothing changed
@@ -80,7 +80,7 @@ unfoldable pub waitingIn : Checked → State → ℕ → Lent → Waiting
 waitingIn Refused t b x = told badSetup 0
 waitingIn (Good s) t b x =
     pick (lengthsOk s x)
-    (pick (numbersOk s t x) (pick (ltb b (banksOf s)) (told done (countOf (x .buffers .heads) b)) (told badAddress 0)) (told badState 0))
+    (pick (numbersOk s t (x .rows) (x .buffers)) (pick (ltb b (banksOf s)) (told done (countOf (x .buffers .heads) b)) (told badAddress 0)) (told badState 0))
     (told badLength 0)
 
 abbrev pub waitingOf : Setup → State → ℕ → Lent → Waiting

@@ -156,8 +156,7 @@ noted position r rows q = (true, (putRow rows position r, q))
 
 -- the row r, where its entry found a place; dropped, its row is empty
 abbrev pub seated : ℕ → Row → List ℕ → Bool × Buffers → Arrived
-seated position r rows (true, q) = (true, (putRow rows position r, q))
-seated position r rows (false, q) = (false, (putRow rows position emptyRow, q))
+seated position r rows (taken, q) = (taken, (putRow rows position (pick taken r emptyRow), q))
 
 -- a read places an entry, and its row waits on itself
 abbrev pub readPlaced : Setup → ℕ → Address → List ℕ → Buffers → Arrived

@@ -61,11 +61,11 @@ buffersOk s q zero = true
 buffersOk s q (suc b) = buffersOk s q b && bufferOk s q b
 
 -- turn below m; row position below C; every row; each of the B buffers
-abbrev pub numbersOk : Setup → State → Lent → Bool
-numbersOk s t x =
+abbrev pub numbersOk : Setup → State → List ℕ → Buffers → Bool
+numbersOk s t rows q =
     (ltb (t .turn) (s .m) && ltb (t .position) (s .c))
-    && rowsOk (wordsOf s) (s .c) (x .rows) (s .c)
-    && buffersOk s (x .buffers) (banksOf s)
+    && rowsOk (wordsOf s) (s .c) rows (s .c)
+    && buffersOk s q (banksOf s)
 
 ------------------------------------------------------------------------
 -- What a call knows of the lent slices once 1, 2 and 3 are past
