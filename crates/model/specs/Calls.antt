@@ -59,8 +59,11 @@ refusalOf s t op x =
     badLength
 
 -- delivery none and stamp 0, and nothing changed
+abbrev pub refusedBy : ℕ → State → Cycled
+refusedBy n t = record { state = t; reply = record { answer = n; delivery = None; stamp = 0 } }
+
 abbrev pub refused : ℕ → State → Lent → Cycled × Lent
-refused n t x = (record { state = t; reply = record { answer = n; delivery = None; stamp = 0 } }, x)
+refused n t x = (refusedBy n t, x)
 
 unfoldable pub cycleIn : Checked → State → Operation → Lent → Cycled × Lent
 cycleIn Refused t op x = refused badSetup t x
@@ -76,12 +79,18 @@ cycleOf s t op x = cycleIn (checkedOf s) t op x
 abbrev pub told : ℕ → ℕ → Waiting
 told answer count = record { answer = answer; count = count }
 
+-- of a setup in range
+unfoldable pub questionOf : Setup → State → ℕ → Lent → Waiting
+questionOf s t b x =
+    pick (lengthsOk s x)
+    (pick (numbersOk s t (x .rows) (x .buffers))
+    (pick (ltb b (banksOf s)) (told done (countOf (x .buffers .heads) b)) (told badAddress 0))
+    (told badState 0))
+    (told badLength 0)
+
 unfoldable pub waitingIn : Checked → State → ℕ → Lent → Waiting
 waitingIn Refused t b x = told badSetup 0
-waitingIn (Good s) t b x =
-    pick (lengthsOk s x)
-    (pick (numbersOk s t (x .rows) (x .buffers)) (pick (ltb b (banksOf s)) (told done (countOf (x .buffers .heads) b)) (told badAddress 0)) (told badState 0))
-    (told badLength 0)
+waitingIn (Good s) t b x = questionOf s t b x
 
 abbrev pub waitingOf : Setup → State → ℕ → Lent → Waiting
 waitingOf s t b x = waitingIn (checkedOf s) t b x

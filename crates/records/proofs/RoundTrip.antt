@@ -19,21 +19,21 @@ use Rattle.port.specs.declared.Operation.{Operation}
 use Rattle.port.specs.declared.Operation.the-variants.{Idle, Read, Write}
 use Rattle.records.specs.declared.OperationRecord.{OperationRecord}
 use Rattle.records.specs.declared.SetupRecord.{SetupRecord}
-use Rattle.records.specs.Records.{base, byteAt, numberAt, bytesOf, zeros, zeroAt, operationSize, idleKind, readKind, writeKind, goodIf, operationIn, operationOf, operationBytesOf, operationBytes, setupSize, setupIn, allowed, setupOf, setupBytes}
+use Rattle.records.specs.Records.{base, byteAt, numberAt, bytesOf, zeros, operationZeros, operationSize, idleKind, readKind, writeKind, goodIf, operationFrom, operationOf, operationLayout, operationBytes, setupSize, setupFields, setupZeros, allowed, setupOf, setupBytes}
 use Rattle.records.specs.RoundTrip.{FitsWord, Fits, Bytes, OperationReadAsWritten, SetupReadAsWritten, OperationWrittenAsRead, SetupWrittenAsRead}
 use Rattle.records.proofs.Numbers.{number-bytes, bytes-number}
 
 ------------------------------------------------------------------------
 -- Reading what was written: operations
 
-numbers-read : (kind address word : ℕ) → FitsWord address → FitsWord word → operationOf (operationBytesOf kind address word) ≡ operationIn kind address word
+numbers-read : (kind address word : ℕ) → FitsWord address → FitsWord word → operationOf (operationLayout kind address word) ≡ operationFrom kind address word
 unfolding operationOf bytesOf
 numbers-read kind address word ha hw =
-    let s : List ℕ = operationBytesOf kind address word in
+    let s : List ℕ = operationLayout kind address word in
     rw (number-bytes 4 address s _ 4 ha refl, number-bytes 4 word s _ 8 hw refl)
 
 pub operation-read-as-written : OperationReadAsWritten
-unfolding operationBytes operationIn
+unfolding operationBytes operationFrom
 operation-read-as-written Idle h = numbers-read idleKind 0 0 (lit< tt) (lit< tt)
 operation-read-as-written (Read x) h = numbers-read readKind (x .0) 0 h (lit< tt)
 operation-read-as-written (Write x word) h = numbers-read writeKind (x .0) word (h .0) (h .1)
@@ -53,8 +53,8 @@ allowed-ranges s h = good-ranges s (withDefaults s) (checkedOf s) refl (rw h)
 below-words : (x a : ℕ) → x < 2 ^ a → a ≤ 20 → FitsWord x
 below-words x a l h = omega (arith, pow-mono h)
 
-fields-read : (s : Setup) → Ranges (withDefaults s) → setupIn (setupBytes s) ≡ s
-unfolding setupIn setupBytes bytesOf
+fields-read : (s : Setup) → Ranges (withDefaults s) → setupFields (setupBytes s) ≡ s
+unfolding setupFields setupBytes bytesOf
 fields-read s r =
     let bytes : List ℕ = setupBytes s in
     let hk : s .k < base ^ 2 = omega (arith, r .sizes .k-most) in
@@ -76,30 +76,30 @@ setup-read-as-written s h = rw (fields-read s (allowed-ranges s h), h)
 ------------------------------------------------------------------------
 -- Writing what was read: operations
 
--- the kinds that `operationIn` tells apart, at the values of its tests
+-- the kinds that `operationFrom` tells apart, at the values of its tests
 module _ (kind address word : ℕ) (op : Operation) where
-  idle-back : (a w : Bool) → eqb address 0 ≡ a → eqb word 0 ≡ w → kind ≡ idleKind → goodIf (a && w) Idle ≡ OperationRecord.Good op → operationBytesOf kind address word ≡ operationBytes op
+  idle-back : (a w : Bool) → eqb address 0 ≡ a → eqb word 0 ≡ w → kind ≡ idleKind → goodIf (a && w) Idle ≡ OperationRecord.Good op → operationLayout kind address word ≡ operationBytes op
   unfolding operationBytes
   idle-back true true ea ew k h = let o : op ≡ Idle = cc in rw (o, k, eqb-true address 0 ea, eqb-true word 0 ew)
   idle-back true false ea ew k h = let z : _≡_ {A = ℕ} 0 1 = cc in absurd (omega arith)
   idle-back false w ea ew k h = let z : _≡_ {A = ℕ} 0 1 = cc in absurd (omega arith)
 
-  read-back : (w : Bool) → eqb word 0 ≡ w → kind ≡ readKind → goodIf w (Read (record { 0 = address })) ≡ OperationRecord.Good op → operationBytesOf kind address word ≡ operationBytes op
+  read-back : (w : Bool) → eqb word 0 ≡ w → kind ≡ readKind → goodIf w (Read (record { 0 = address })) ≡ OperationRecord.Good op → operationLayout kind address word ≡ operationBytes op
   unfolding operationBytes
   read-back true ew k h = let o : op ≡ Read (record { 0 = address }) = cc in rw (o, k, eqb-true word 0 ew)
   read-back false ew k h = let z : _≡_ {A = ℕ} 0 1 = cc in absurd (omega arith)
 
-  write-back : (k : Bool) → eqb kind writeKind ≡ k → goodIf k (Write (record { 0 = address }) word) ≡ OperationRecord.Good op → operationBytesOf kind address word ≡ operationBytes op
+  write-back : (k : Bool) → eqb kind writeKind ≡ k → goodIf k (Write (record { 0 = address }) word) ≡ OperationRecord.Good op → operationLayout kind address word ≡ operationBytes op
   unfolding operationBytes
   write-back true ek h = let o : op ≡ Write (record { 0 = address }) word = cc in rw (o, eqb-true kind writeKind ek)
   write-back false ek h = let z : _≡_ {A = ℕ} 0 1 = cc in absurd (omega arith)
 
   -- the numbers that give an operation are the ones that it is written with
-  numbers-back : operationIn kind address word ≡ OperationRecord.Good op → operationBytesOf kind address word ≡ operationBytes op
-  unfolding operationIn
+  numbers-back : operationFrom kind address word ≡ OperationRecord.Good op → operationLayout kind address word ≡ operationBytes op
+  unfolding operationFrom
   numbers-back h = go (eqb kind idleKind) (eqb kind readKind) refl refl h
     where
-      go : (i r : Bool) → eqb kind idleKind ≡ i → eqb kind readKind ≡ r → pick i (goodIf (eqb address 0 && eqb word 0) Idle) (pick r (goodIf (eqb word 0) (Read (record { 0 = address }))) (goodIf (eqb kind writeKind) (Write (record { 0 = address }) word))) ≡ OperationRecord.Good op → operationBytesOf kind address word ≡ operationBytes op
+      go : (i r : Bool) → eqb kind idleKind ≡ i → eqb kind readKind ≡ r → pick i (goodIf (eqb address 0 && eqb word 0) Idle) (pick r (goodIf (eqb word 0) (Read (record { 0 = address }))) (goodIf (eqb kind writeKind) (Write (record { 0 = address }) word))) ≡ OperationRecord.Good op → operationLayout kind address word ≡ operationBytes op
       go true r ei er g = idle-back _ _ refl refl (eqb-true kind idleKind ei) g
       go false true ei er g = read-back _ refl (eqb-true kind readKind er) g
       go false false ei er g = write-back _ refl g
@@ -108,13 +108,10 @@ module _ (kind address word : ℕ) (op : Operation) where
 byte-back : (s : List ℕ) (i : ℕ) → suc i ≤ length s → byteAt s i ∷ drop (suc i) s ≡ drop i s
 byte-back s i h = sym (drop-cons s i 0 h)
 
-operation-bytes : (s : List ℕ) → Bytes s → length s ≡ operationSize → byteAt s 1 ≡ 0 → byteAt s 2 ≡ 0 → byteAt s 3 ≡ 0 → operationBytesOf (byteAt s 0) (numberAt 4 s 4) (numberAt 4 s 8) ≡ s
+operation-bytes : (s : List ℕ) → Bytes s → length s ≡ operationSize → byteAt s 1 ≡ 0 → byteAt s 2 ≡ 0 → byteAt s 3 ≡ 0 → operationLayout (byteAt s 0) (numberAt 4 s 4) (numberAt 4 s 8) ≡ s
 unfolding bytesOf
 operation-bytes s b h z₁ z₂ z₃ = nested
   where
-    at : (i n : ℕ) → i + n ≤ operationSize → bytesOf n (numberAt n s i) ++ drop (i + n) s ≡ drop i s
-    at i n l = bytes-number n s i b (omega arith)
-
     nested : byteAt s 0 ∷ 0 ∷ 0 ∷ 0 ∷ (bytesOf 4 (numberAt 4 s 4) ++ (bytesOf 4 (numberAt 4 s 8) ++ [])) ≡ s
     nested =
         cc
@@ -136,10 +133,45 @@ good-operation false r op h = let z : _≡_ {A = ℕ} 0 1 = cc in absurd (omega 
 pub operation-written-as-read : OperationWrittenAsRead
 unfolding operationOf
 operation-written-as-read s op b h =
-    let g = good-operation _ _ op h in
-    let t = g .0 in
-    let n : length s ≡ operationSize = eqb-true _ _ (and-l _ _ t) in
-    let z₁ : byteAt s 1 ≡ 0 = search (and-l, and-r, eqb-true) depth 6 in
-    let z₂ : byteAt s 2 ≡ 0 = search (and-l, and-r, eqb-true) depth 6 in
-    let z₃ : byteAt s 3 ≡ 0 = search (and-l, and-r, eqb-true) depth 6 in
-    sym (numbers-back _ _ _ op (g .1)) ∙ operation-bytes s b n z₁ z₂ z₃
+    let g = good-operation (eqb (length s) operationSize && operationZeros s) (operationFrom (byteAt s 0) (numberAt 4 s 4) (numberAt 4 s 8)) op h in
+    let z₁ : byteAt s 1 ≡ 0 = search (and-l, and-r, eqb-true) in
+    let z₂ : byteAt s 2 ≡ 0 = search (and-l, and-r, eqb-true) in
+    let z₃ : byteAt s 3 ≡ 0 = search (and-l, and-r, eqb-true) in
+    sym (numbers-back _ _ _ op (g .1)) ∙ operation-bytes s b (search (and-l, and-r, eqb-true)) z₁ z₂ z₃
+
+------------------------------------------------------------------------
+-- Writing what was read: setups
+
+setup-bytes : (s : List ℕ) → Bytes s → length s ≡ setupSize → byteAt s 10 ≡ 0 → byteAt s 11 ≡ 0 → setupBytes (setupFields s) ≡ s
+unfolding setupBytes setupFields bytesOf
+setup-bytes s b h z₀ z₁ = nested
+  where
+    nested : byteAt s 0 ∷ byteAt s 1 ∷ byteAt s 2 ∷ byteAt s 3 ∷ (bytesOf 2 (numberAt 2 s 4) ++ (bytesOf 2 (numberAt 2 s 6) ++ (bytesOf 2 (numberAt 2 s 8) ++ 0 ∷ 0 ∷ (bytesOf 4 (numberAt 4 s 12) ++ (bytesOf 4 (numberAt 4 s 16) ++ []))))) ≡ s
+    nested =
+        cc
+        (z₀,
+        z₁,
+        byte-back s 0 (omega arith),
+        byte-back s 1 (omega arith),
+        byte-back s 2 (omega arith),
+        byte-back s 3 (omega arith),
+        bytes-number 2 s 4 b (omega arith),
+        bytes-number 2 s 6 b (omega arith),
+        bytes-number 2 s 8 b (omega arith),
+        byte-back s 10 (omega arith),
+        byte-back s 11 (omega arith),
+        bytes-number 4 s 12 b (omega arith),
+        bytes-number 4 s 16 b (omega arith),
+        drop-of-length-le s {i = 20} (omega arith))
+
+good-setup : (b : Bool) (g s : Setup) → pick b (SetupRecord.Good g) SetupRecord.Refused ≡ SetupRecord.Good s → (b ≡ true) × (g ≡ s)
+good-setup true g s h = (refl, cc)
+good-setup false g s h = let z : _≡_ {A = ℕ} 0 1 = cc in absurd (omega arith)
+
+pub setup-written-as-read : SetupWrittenAsRead
+unfolding setupOf
+setup-written-as-read bytes s b h =
+    let g = good-setup (eqb (length bytes) setupSize && setupZeros bytes && allowed (setupFields bytes)) (setupFields bytes) s h in
+    let z₀ : byteAt bytes 10 ≡ 0 = search (and-l, and-r, eqb-true) in
+    let z₁ : byteAt bytes 11 ≡ 0 = search (and-l, and-r, eqb-true) in
+    ap setupBytes (sym (g .1)) ∙ setup-bytes bytes b (search (and-l, and-r, eqb-true)) z₀ z₁

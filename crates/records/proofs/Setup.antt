@@ -14,7 +14,7 @@ use Rattle.setup.specs.declared.Setup.{Setup}
 use Rattle.setup.specs.declared.Checked.{Checked}
 use Rattle.records.specs.declared.SetupRecord.{SetupRecord}
 use Rattle.records.specs.declared.SetupRecord.the-variants.{Good, Refused}
-use Rattle.records.specs.Records.{byteAt, numberAt, bytesOf, zeroAt, zeros, setupSize, setupIn, allowed, setupOf, setupBytes, setupWritten}
+use Rattle.records.specs.Records.{byteAt, numberAt, bytesOf, zeros, setupZeros, setupSize, setupFields, allowed, setupOf, setupBytes, setupWritten}
 use Rattle.records.proofs.Numbers.{filled}
 
 ------------------------------------------------------------------------
@@ -45,12 +45,12 @@ module _ (s : List ℕ) where
   unfolding setupOf
   wrong-length n = cc (ne-eqb (length s) setupSize n)
 
-  module _ (f : Setup) (t : Bool) (h : length s ≡ setupSize) (e : f ≡ setupIn s) (a : t ≡ allowed f) where
-    pub right : zeroAt s 10 && zeroAt s 11 && t ≡ true → Good f ≡ setupOf s
+  module _ (f : Setup) (t : Bool) (h : length s ≡ setupSize) (e : f ≡ setupFields s) (a : t ≡ allowed f) where
+    pub right : setupZeros s && t ≡ true → Good f ≡ setupOf s
     unfolding setupOf
     right z = cc (eq-eqb (length s) setupSize h)
 
-    pub wrong : zeroAt s 10 && zeroAt s 11 && t ≡ false → Refused ≡ setupOf s
+    pub wrong : setupZeros s && t ≡ false → Refused ≡ setupOf s
     unfolding setupOf
     wrong z = cc (eq-eqb (length s) setupSize h)
 

@@ -1,4 +1,4 @@
--- The document's "Records": fixed size, no header, little-endian.
+-- The document's "Records".
 use Prim.Native.Nat.{ℕ, zero, suc, _+_, _*_, _/_, _%_}
 use mathlib.Core.Bool.{Bool, _&&_}
 use mathlib.Core.List.{List, [], _∷_, _++_}
@@ -14,7 +14,7 @@ use Rattle.records.specs.declared.OperationRecord.{OperationRecord}
 use Rattle.records.specs.declared.SetupRecord.{SetupRecord}
 
 ------------------------------------------------------------------------
--- Little-endian
+-- Fixed size, no header, little-endian
 
 -- how many values a byte has
 abbrev pub base : ℕ
@@ -43,12 +43,11 @@ abbrev pub zeros : ℕ → List ℕ
 zeros n = replicate n 0
 
 ------------------------------------------------------------------------
--- An operation has 12 bytes
+-- An operation has 12 bytes: kind (0 idle, 1 read, 2 write), three zero bytes, address (4), word (4)
 
 abbrev pub operationSize : ℕ
 operationSize = 12
 
--- kind (0 idle, 1 read, 2 write)
 abbrev pub idleKind : ℕ
 idleKind = 0
 
@@ -58,53 +57,54 @@ readKind = 1
 abbrev pub writeKind : ℕ
 writeKind = 2
 
-abbrev pub goodIf : Bool → Operation → OperationRecord
-goodIf b op = pick b (OperationRecord.Good op) OperationRecord.Bad
+abbrev pub operationZeros : List ℕ → Bool
+operationZeros s = zeroAt s 1 && zeroAt s 2 && zeroAt s 3
 
--- word is zero in a read; address and word are zero in idle; a record of unknown kind is bad
-unfoldable pub operationIn : (kind address word : ℕ) → OperationRecord
-operationIn kind address word =
+abbrev pub goodIf : Bool → Operation → OperationRecord
+goodIf test op = pick test (OperationRecord.Good op) OperationRecord.Bad
+
+-- word is zero in a read; address and word are zero in idle
+unfoldable pub operationFrom : (kind address word : ℕ) → OperationRecord
+operationFrom kind address word =
     pick (eqb kind idleKind)
     (goodIf (eqb address 0 && eqb word 0) Idle)
     (pick (eqb kind readKind)
     (goodIf (eqb word 0) (Read (record { 0 = address })))
     (goodIf (eqb kind writeKind) (Write (record { 0 = address }) word)))
 
--- kind, three zero bytes, address (4), word (4); a record with the wrong length is bad
+-- bad: a record has the wrong length, is of unknown kind, or has a nonzero byte where zero is due
 unfoldable pub operationOf : List ℕ → OperationRecord
 operationOf s =
-    pick (eqb (length s) operationSize && (zeroAt s 1 && zeroAt s 2 && zeroAt s 3))
-    (operationIn (byteAt s 0) (numberAt 4 s 4) (numberAt 4 s 8))
+    pick (eqb (length s) operationSize && operationZeros s)
+    (operationFrom (byteAt s 0) (numberAt 4 s 4) (numberAt 4 s 8))
     OperationRecord.Bad
-
--- the same, written
-abbrev pub operationBytesOf : (kind address word : ℕ) → List ℕ
-operationBytesOf kind address word = (kind ∷ zeros 3) ++ bytesOf 4 address ++ bytesOf 4 word
-
--- an operation's address is written as given
-unfoldable pub operationBytes : Operation → List ℕ
-operationBytes Idle = operationBytesOf idleKind 0 0
-operationBytes (Read x) = operationBytesOf readKind (x .0) 0
-operationBytes (Write x word) = operationBytesOf writeKind (x .0) word
-
--- writing a record refuses a room of another length by 2, and then leaves the room unchanged
-unfoldable pub operationWritten : Operation → List ℕ → ℕ × List ℕ
-operationWritten op room = pick (eqb (length room) operationSize) (done, operationBytes op) (badLength, room)
 
 -- the document's number for each case
 abbrev pub operationAnswer : OperationRecord → ℕ
 operationAnswer (OperationRecord.Good op) = done
 operationAnswer OperationRecord.Bad = badRecord
 
+abbrev pub operationLayout : (kind address word : ℕ) → List ℕ
+operationLayout kind address word = (kind ∷ zeros 3) ++ bytesOf 4 address ++ bytesOf 4 word
+
+-- an operation's address is written as given
+unfoldable pub operationBytes : Operation → List ℕ
+operationBytes Idle = operationLayout idleKind 0 0
+operationBytes (Read x) = operationLayout readKind (x .0) 0
+operationBytes (Write x word) = operationLayout writeKind (x .0) word
+
+-- writing a record refuses a room of another length by 2, and then leaves the room unchanged
+unfoldable pub operationWritten : Operation → List ℕ → ℕ × List ℕ
+operationWritten op room = pick (eqb (length room) operationSize) (done, operationBytes op) (badLength, room)
+
 ------------------------------------------------------------------------
--- A setup has 20 bytes
+-- A setup has 20 bytes: mode, a, s, m (1 each), K, Δ, C (2 each), two zero bytes, u, v (4 each)
 
 abbrev pub setupSize : ℕ
 setupSize = 20
 
--- mode, a, s, m (1 each), K, Δ, C (2 each), two zero bytes, u, v (4 each)
-unfoldable pub setupIn : List ℕ → Setup
-setupIn s =
+unfoldable pub setupFields : List ℕ → Setup
+setupFields s =
     record {
       mode = byteAt s 0;
       a = byteAt s 1;
@@ -117,18 +117,26 @@ setupIn s =
       v = numberAt 4 s 16;
     }
 
+abbrev pub setupZeros : List ℕ → Bool
+setupZeros s = zeroAt s 10 && zeroAt s 11
+
 -- the ranges apply after the defaults
 unfoldable pub allowed : Setup → Bool
 allowed s = inRange (withDefaults s)
 
--- wrong zero bytes or a wrong length of a setup count as answer 1; a default given as 0 stays 0
+-- wrong zero bytes or a wrong length of a setup count as answer 1
 unfoldable pub setupOf : List ℕ → SetupRecord
 setupOf s =
-    pick (eqb (length s) setupSize && (zeroAt s 10 && zeroAt s 11) && allowed (setupIn s))
-    (SetupRecord.Good (setupIn s))
+    pick (eqb (length s) setupSize && setupZeros s && allowed (setupFields s))
+    (SetupRecord.Good (setupFields s))
     SetupRecord.Refused
 
--- the same, written; a default given as 0 is written as 0
+-- the document's number for each case
+abbrev pub setupAnswer : SetupRecord → ℕ
+setupAnswer (SetupRecord.Good s) = done
+setupAnswer SetupRecord.Refused = badSetup
+
+-- a default given as 0 is written as 0
 unfoldable pub setupBytes : Setup → List ℕ
 setupBytes s =
     (s .mode ∷ s .a ∷ s .s ∷ s .m ∷ [])
@@ -145,8 +153,3 @@ setupWritten s room =
     pick (allowed s)
     (pick (eqb (length room) setupSize) (done, setupBytes s) (badLength, room))
     (badSetup, room)
-
--- the document's number for each case
-abbrev pub setupAnswer : SetupRecord → ℕ
-setupAnswer (SetupRecord.Good s) = done
-setupAnswer SetupRecord.Refused = badSetup

@@ -5,7 +5,7 @@ ghost use mathlib.Core.List.{[], _∷_, _++_};
 ghost use lib.ListN.{length};
 ghost use lib.Seq.{sets};
 ghost use Rattle.answers.specs.Answers.{done};
-ghost use Rattle.records.specs.Records.{bytesOf, zeros, operationSize, goodIf, operationIn, operationOf, operationBytesOf, operationWritten, setupSize, setupIn, allowed, setupOf, setupBytes, setupWritten};
+ghost use Rattle.records.specs.Records.{bytesOf, zeros, goodIf, operationSize, operationFrom, operationOf, operationLayout, operationWritten, setupSize, setupFields, allowed, setupOf, setupBytes, setupWritten};
 
 mod little_endian;
 
@@ -24,7 +24,7 @@ pub enum OperationRecord {
     Bad,
 }
 
-// What a setup record holds, as it is written; a refused one is answer 1.
+// What a setup record holds, a default given as 0 still 0; a refused one is answer 1.
 pub enum SetupRecord {
     Good(Setup),
     Refused,
@@ -32,20 +32,20 @@ pub enum SetupRecord {
 
 pub const OPERATION_BYTES: usize = 12;
 
-pub const SETUP_BYTES: usize = 20;
-
 const KIND_IDLE: u8 = 0;
 
 const KIND_READ: u8 = 1;
 
 const KIND_WRITE: u8 = 2;
 
-// Where the numbers of an operation stand, past the kind and three zero bytes.
+// Past the kind and three zero bytes.
 const ADDRESS_AT: usize = 4;
 
 const WORD_AT: usize = 8;
 
-// Where the numbers of a setup stand, past mode, a, s and m.
+pub const SETUP_BYTES: usize = 20;
+
+// Past mode, a, s and m.
 const K_AT: usize = 4;
 
 const DELTA_AT: usize = 6;
@@ -58,19 +58,19 @@ const U_AT: usize = 12;
 
 const V_AT: usize = 16;
 
-fn good_if(good: bool, op: Operation) -> OperationRecord
-    ensures { λ r. ⌜ r ≡ goodIf good op ⌝ }
+fn good_if(test: bool, op: Operation) -> OperationRecord
+    ensures { λ r. ⌜ r ≡ goodIf test op ⌝ }
 {
-    if good {
+    if test {
         OperationRecord::Good(op)
     } else {
         OperationRecord::Bad
     }
 }
 
-// The operation of a kind, an address and a word.
-fn operation_in(kind: u8, address: u32, word: u32) -> OperationRecord
-    ensures { λ r. ⌜ r ≡ operationIn kind address word ⌝ }
+// The operation that a record's numbers mean.
+fn operation_from(kind: u8, address: u32, word: u32) -> OperationRecord
+    ensures { λ r. ⌜ r ≡ operationFrom kind address word ⌝ }
 {
     if kind == KIND_IDLE {
         return good_if((address == 0) & (word == 0), Operation::Idle);
@@ -78,9 +78,13 @@ fn operation_in(kind: u8, address: u32, word: u32) -> OperationRecord
     if kind == KIND_READ {
         return good_if(word == 0, Operation::Read(Address(address)));
     }
-    good_if(kind == KIND_WRITE, Operation::Write(Address(address), word))
+    good_if(
+        kind == KIND_WRITE,
+        Operation::Write(Address(address), word),
+    )
 }
 
+// The operation in a record, or that the record is bad.
 pub fn read_operation(bytes: &[u8]) -> OperationRecord
     ensures { λ r. ⌜ r ≡ operationOf (now (bytes .entry)) ⌝ }
 {
@@ -88,7 +92,7 @@ pub fn read_operation(bytes: &[u8]) -> OperationRecord
         return OperationRecord::Bad;
     }
     if (bytes[1] == 0) & (bytes[2] == 0) & (bytes[3] == 0) {
-        operation_in(
+        operation_from(
             bytes[0],
             four_at(bytes, ADDRESS_AT),
             four_at(bytes, WORD_AT),
@@ -98,21 +102,21 @@ pub fn read_operation(bytes: &[u8]) -> OperationRecord
     }
 }
 
-// Stores the first four bytes of a record; none of them is part of a longer number.
-fn put_first(room: &mut [u8], a: u8, b: u8, c: u8, d: u8)
+// Stores the four bytes that a record begins with.
+fn put_first(room: &mut [u8], b0: u8, b1: u8, b2: u8, b3: u8)
     requires { ⌜ 4 ≤ length (now room) ⌝ }
-    ensures { λ _. ⌜ now (room .exit) ≡ sets (now (room .entry)) 0 (a ∷ b ∷ c ∷ d ∷ []) ⌝ }
+    ensures { λ _. ⌜ now (room .exit) ≡ sets (now (room .entry)) 0 (b0 ∷ b1 ∷ b2 ∷ b3 ∷ []) ⌝ }
 {
-    room[0] = a;
-    room[1] = b;
-    room[2] = c;
-    room[3] = d;
+    room[0] = b0;
+    room[1] = b1;
+    room[2] = b2;
+    room[3] = b3;
 }
 
-// Stores an operation's numbers over a whole room.
+// Fills a room of an operation's size.
 fn put_operation(room: &mut [u8], kind: u8, address: u32, word: u32) -> u32
     requires { ⌜ length (now room) ≡ operationSize ⌝ }
-    ensures { λ r. ⌜ (r ≡ done) × (now (room .exit) ≡ operationBytesOf kind address word) ⌝ }
+    ensures { λ r. ⌜ (r ≡ done) × (now (room .exit) ≡ operationLayout kind address word) ⌝ }
 {
     put_first(room, kind, 0, 0, 0);
     put_four(room, ADDRESS_AT, address);
@@ -120,6 +124,7 @@ fn put_operation(room: &mut [u8], kind: u8, address: u32, word: u32) -> u32
     answers::DONE
 }
 
+// Writes an operation over the whole room; a room of another length is refused by 2.
 pub fn write_operation(op: Operation, room: &mut [u8]) -> u32
     ensures { λ r. ⌜ (r, now (room .exit)) ≡ operationWritten op (now (room .entry)) ⌝ }
 {
@@ -133,8 +138,8 @@ pub fn write_operation(op: Operation, room: &mut [u8]) -> u32
     }
 }
 
-// The setup's numbers are in range once the defaults are in.
-fn is_allowed(s: Setup) -> bool
+// The setup is in range once its defaults are in.
+fn allowed(s: Setup) -> bool
     ensures { λ r. ⌜ r ≡ allowed s ⌝ }
 {
     match Setup::checked(s) {
@@ -143,10 +148,10 @@ fn is_allowed(s: Setup) -> bool
     }
 }
 
-// The numbers of a setup record, whatever they are.
-fn setup_in(bytes: &[u8]) -> Setup
+// The numbers in a setup record, whatever they are.
+fn setup_fields(bytes: &[u8]) -> Setup
     requires { ⌜ length (now bytes) ≡ setupSize ⌝ }
-    ensures { λ r. ⌜ r ≡ setupIn (now (bytes .entry)) ⌝ }
+    ensures { λ r. ⌜ r ≡ setupFields (now (bytes .entry)) ⌝ }
 {
     Setup {
         mode: bytes[0],
@@ -161,14 +166,15 @@ fn setup_in(bytes: &[u8]) -> Setup
     }
 }
 
+// The setup in a record, or that the record is refused.
 pub fn read_setup(bytes: &[u8]) -> SetupRecord
     ensures { λ r. ⌜ r ≡ setupOf (now (bytes .entry)) ⌝ }
 {
     if bytes.len() != SETUP_BYTES {
         return SetupRecord::Refused;
     }
-    let s = setup_in(bytes);
-    if (bytes[ZEROS_AT] == 0) & (bytes[ZEROS_AT + 1] == 0) & is_allowed(s) {
+    let s = setup_fields(bytes);
+    if (bytes[ZEROS_AT] == 0) & (bytes[ZEROS_AT + 1] == 0) & allowed(s) {
         SetupRecord::Good(s)
     } else {
         SetupRecord::Refused
@@ -186,7 +192,7 @@ fn put_middle(room: &mut [u8], k: u16, delta: u16, c: u16)
     put_two(room, ZEROS_AT, 0);
 }
 
-// Stores a setup over a whole room.
+// Fills a room of a setup's size.
 fn put_setup(room: &mut [u8], s: Setup) -> u32
     requires { ⌜ length (now room) ≡ setupSize ⌝ }
     ensures { λ r. ⌜ (r ≡ done) × (now (room .exit) ≡ setupBytes s) ⌝ }
@@ -198,10 +204,11 @@ fn put_setup(room: &mut [u8], s: Setup) -> u32
     answers::DONE
 }
 
+// Writes a setup over the whole room; out of range it is refused by 1, then a room of another length by 2.
 pub fn write_setup(s: Setup, room: &mut [u8]) -> u32
     ensures { λ r. ⌜ (r, now (room .exit)) ≡ setupWritten s (now (room .entry)) ⌝ }
 {
-    if is_allowed(s) {
+    if allowed(s) {
         if room.len() == SETUP_BYTES {
             return put_setup(room, s);
         }

@@ -20,7 +20,9 @@ pub fn two_at(bytes: &[u8], at: usize) -> u16
     requires { ⌜ at + 2 ≤ length (now bytes) ⌝ }
     ensures { λ r. ⌜ r ≡ numberAt 2 (now (bytes .entry)) at ⌝ }
 {
-    (wide(bytes[at]) + BASE * wide(bytes[at + 1])) as u16
+    let first = wide(bytes[at]);
+    let second = wide(bytes[at + 1]);
+    (first + BASE * second) as u16
 }
 
 // The number in four bytes.
@@ -28,7 +30,9 @@ pub fn four_at(bytes: &[u8], at: usize) -> u32
     requires { ⌜ at + 4 ≤ length (now bytes) ⌝ }
     ensures { λ r. ⌜ r ≡ numberAt 4 (now (bytes .entry)) at ⌝ }
 {
-    (two_at(bytes, at) as u32) + BASE * BASE * (two_at(bytes, at + 2) as u32)
+    let first = two_at(bytes, at) as u32;
+    let second = two_at(bytes, at + 2) as u32;
+    first + BASE * BASE * second
 }
 
 // The lowest byte of a number.

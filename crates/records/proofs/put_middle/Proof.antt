@@ -1,32 +1,24 @@
+-- `put_middle` meets its contract: the four stores follow each other. Assumes nothing.
 use borrow.Author.Needs.{needs}
 use Rattle.records.proofs.Setup.{stored-middle}
 use Rattle.records.proofs.put_middle.Statement.{statement}
 use Rattle.records.proofs.put_middle.Tie as tie
-use Rattle.records.proofs.put_middle.Reads as reads
-use Rattle.records.proofs.put_middle.Lts as lts
-use Rattle.records.proofs.little_endian.put_two.Reads as put-two-reads
 
--- src/lib.rt:177:5
 put-two-requires : tie.Need-put-two-requires
 put-two-requires c κs = search needs
 
--- src/lib.rt:178:5
 put-two-requires-2 : tie.Need-put-two-requires-2
 put-two-requires-2 c κs = search needs
 
--- src/lib.rt:179:5
 put-two-requires-3 : tie.Need-put-two-requires-3
 put-two-requires-3 c κs = search needs
 
--- src/lib.rt:180:5
 put-two-requires-4 : tie.Need-put-two-requires-4
 put-two-requires-4 c κs = search needs
 
--- src/lib.rt:173:1
 same-length : tie.Need-same-length
 same-length c = search needs
 
--- src/lib.rt:173:1
 returns : tie.Need-returns
 returns c = search (stored-middle)
 

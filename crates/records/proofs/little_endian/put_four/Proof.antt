@@ -1,28 +1,21 @@
+-- `put_four` meets its contract: the second pair is two places on. Assumes nothing.
 use borrow.Author.Needs.{needs}
 use Rattle.records.proofs.Numbers.{stored-four}
 use Rattle.records.proofs.little_endian.put_four.Statement.{statement}
 use Rattle.records.proofs.little_endian.put_four.Tie as tie
-use Rattle.records.proofs.little_endian.put_four.Reads as reads
-use Rattle.records.proofs.little_endian.put_four.Lts as lts
-use Rattle.records.proofs.little_endian.put_two.Reads as put-two-reads
 
--- src/little_endian.rt:56:5
 put-two-requires : tie.Need-put-two-requires
 put-two-requires c κs = search needs
 
--- src/little_endian.rt:57:19
 add-put-two : tie.Need-add-put-two
 add-put-two c = search needs
 
--- src/little_endian.rt:57:5
 put-two-requires-2 : tie.Need-put-two-requires-2
 put-two-requires-2 c κs = search needs
 
--- src/little_endian.rt:52:1
 same-length : tie.Need-same-length
 same-length c = search needs
 
--- src/little_endian.rt:52:1
 returns : tie.Need-returns
 returns c = search (stored-four)
 

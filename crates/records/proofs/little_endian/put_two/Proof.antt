@@ -1,38 +1,29 @@
+-- `put_two` meets its contract: the second store is one place on. Assumes nothing.
 use native.Mathlib.Omega.{arith}
 use borrow.Author.Needs.{needs}
 use lib.ListN.{length-set}
 use Rattle.records.proofs.Numbers.{stored-two}
 use Rattle.records.proofs.little_endian.put_two.Statement.{statement}
 use Rattle.records.proofs.little_endian.put_two.Tie as tie
-use Rattle.records.proofs.little_endian.put_two.Reads as reads
-use Rattle.records.proofs.little_endian.put_two.Lts as lts
-use Rattle.records.proofs.little_endian.low.Reads as low-reads
 
--- src/little_endian.rt:47:16
 low-requires : tie.Need-low-requires
 low-requires c κs = search needs
 
--- src/little_endian.rt:47:5
 slice-write-room : tie.Need-slice-write-room
 slice-write-room c = search needs
 
--- src/little_endian.rt:48:20
 low-requires-2 : tie.Need-low-requires-2
 low-requires-2 c κs = search needs
 
--- src/little_endian.rt:48:10
 add-room : tie.Need-add-room
 add-room c = search needs
 
--- src/little_endian.rt:48:5
 slice-write-room-2 : tie.Need-slice-write-room-2
 slice-write-room-2 c = simp length-set (omega arith)
 
--- src/little_endian.rt:43:1
 same-length : tie.Need-same-length
 same-length c = search needs
 
--- src/little_endian.rt:43:1
 returns : tie.Need-returns
 returns c = search (stored-two)
 

@@ -1,0 +1,1 @@
+-- What the functions on a bank. Assumes nothing.

@@ -1,0 +1,1 @@
+-- The range check of the buffers. Assumes nothing.

@@ -1,0 +1,4 @@
+pub mod Four
+pub mod Heads
+pub mod InRange
+pub mod Banks

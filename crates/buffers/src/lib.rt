@@ -1,0 +1,199 @@
+// The request buffers: each bank's buffer is handled through its own part of the lent entry room.
+ghost use mathlib.Core.Path.{_≡_};
+ghost use Prim.Native.Nat.{_+_, _*_, _≤_, _<_};
+ghost use lib.ListN.{length};
+ghost use Rattle.setup.specs.Setup.{banksOf};
+ghost use Rattle.map.specs.Map.{bankOf};
+ghost use Rattle.model.specs.Lent.{buffersIn, entryAt, putEntry, oldestOf, countOf, putHead, onward};
+ghost use Rattle.model.specs.Cycle.{oldestEntry, popped, placedAt, placed};
+ghost use Rattle.model.specs.Range.{entryOk, entriesOk, headOk, bufferOk, buffersOk};
+ghost use Rattle.buffers.specs.Part.{partOk};
+ghost use Rattle.buffers.specs.Bank.{Room, Head, Buffer};
+use map::Cell;
+use model::Entry;
+use places::onward;
+use places::put_four;
+use setup::Setup;
+
+// One buffer: `part` has its k places, used in a ring.
+
+// The entry at place i.
+fn entry_at(part: &[u32], i: usize) -> Entry
+    requires { ⌜ 4 * i + 4 ≤ length (now part) ⌝ }
+    ensures { λ r. ⌜ r ≡ entryAt (now (part .entry)) i ⌝ }
+{
+    let at = 4 * i;
+    Entry {
+        kind: part[at],
+        row: part[at + 1],
+        cell: Cell(part[at + 2]),
+        word: part[at + 3],
+    }
+}
+
+// The entry that has waited longest.
+fn oldest_of(part: &[u32], k: usize, oldest: usize) -> Entry
+    requires { ⌜ (length (now part) ≡ 4 * k) × (oldest < k) ⌝ }
+    ensures { λ r. ⌜ r ≡ entryAt (now (part .entry)) oldest ⌝ }
+{
+    entry_at(part, oldest)
+}
+
+// First in, first out: the entry goes behind the last of `count`.
+fn push(part: &mut [u32], k: usize, oldest: usize, count: usize, e: Entry)
+    requires { ⌜ (length (now part) ≡ 4 * k) × (oldest < k) × (count < k) × (k ≤ 128) ⌝ }
+    ensures { λ _. ⌜ now (part .exit) ≡ putEntry (now (part .entry)) (onward k oldest count) e ⌝ }
+{
+    let cell = e.cell;
+    put_four(part, onward(k, oldest, count), e.kind, e.row, cell.0, e.word);
+}
+
+// A kind that is coded, a cell below n, and of a read entry a row below c.
+fn entry_ok(n: u32, c: u32, e: Entry) -> bool
+    ensures { λ r. ⌜ r ≡ entryOk n c e ⌝ }
+{
+    let cell = e.cell;
+    (e.kind <= Entry::WRITE) & (cell.0 < n) & ((e.kind != Entry::READ) | (e.row < c))
+}
+
+// The `count` waiting entries, from the oldest on; without an early exit.
+fn part_ok(part: &[u32], k: usize, oldest: usize, count: usize, n: u32, c: u32) -> bool
+    requires { ⌜ (length (now part) ≡ 4 * k) × (oldest < k) × (count ≤ k) × (k ≤ 128) ⌝ }
+    ensures { λ r. ⌜ r ≡ partOk n c k oldest (now (part .entry)) count ⌝ }
+{
+    let mut ok = true;
+    let mut i: usize = 0;
+    while i < count {
+        let e = entry_at(part, onward(k, oldest, i));
+        ok = ok & entry_ok(n, c, e);
+        i += 1;
+    }
+    ok
+}
+
+// The heads: two numbers a bank, the oldest place and the count.
+
+fn oldest_at(heads: &[u32], b: usize) -> u32
+    requires { ⌜ 2 * b + 2 ≤ length (now heads) ⌝ }
+    ensures { λ r. ⌜ r ≡ oldestOf (now (heads .entry)) b ⌝ }
+{
+    heads[2 * b]
+}
+
+// How many entries wait at bank b.
+pub fn count_at(heads: &[u32], b: usize) -> u32
+    requires { ⌜ 2 * b + 2 ≤ length (now heads) ⌝ }
+    ensures { λ r. ⌜ r ≡ countOf (now (heads .entry)) b ⌝ }
+{
+    heads[2 * b + 1]
+}
+
+fn put_head(heads: &mut [u32], b: usize, oldest: u32, count: u32)
+    requires { ⌜ 2 * b + 2 ≤ length (now heads) ⌝ }
+    ensures { λ _. ⌜ now (heads .exit) ≡ putHead (now (heads .entry)) b oldest count ⌝ }
+{
+    heads[2 * b] = oldest;
+    heads[2 * b + 1] = count;
+}
+
+// The banks: bank b's part is cut out of the middle of the entry room.
+
+// The oldest entry of bank b's buffer.
+pub fn oldest_entry(s: Setup, b: usize, entries: &[u32], heads: &[u32]) -> Entry
+    requires { ⌜ Buffer s b (buffersIn (now entries) (now heads)) ⌝ }
+    ensures { λ r. ⌜ r ≡ oldestEntry s b (buffersIn (now (entries .entry)) (now (heads .entry))) ⌝ }
+{
+    let k = s.k as usize;
+    let from = 4 * (b * k);
+    let to = from + 4 * k;
+    oldest_of(&entries[from..to], k, oldest_at(heads, b) as usize)
+}
+
+// Takes the oldest entry of bank b's buffer away.
+pub fn pop(s: Setup, b: usize, heads: &mut [u32])
+    requires { ⌜ Head s b (now heads) × (0 < countOf (now heads) b) ⌝ }
+    ensures { λ _. ⌜ now (heads .exit) ≡ popped s b (now (heads .entry)) ⌝ }
+{
+    let oldest = onward(s.k as usize, oldest_at(heads, b) as usize, 1);
+    let count = count_at(heads, b);
+    put_head(heads, b, oldest as u32, count - 1);
+}
+
+// Places an entry in bank b's buffer, which is not full.
+fn place_at(s: Setup, b: usize, e: Entry, entries: &mut [u32], heads: &mut [u32])
+    requires { ⌜ Buffer s b (buffersIn (now entries) (now heads)) × (countOf (now heads) b < s .k) ⌝ }
+    ensures { λ _. ⌜ buffersIn (now (entries .exit)) (now (heads .exit)) ≡ placedAt s b e (buffersIn (now (entries .entry)) (now (heads .entry))) ⌝ }
+{
+    let oldest = oldest_at(heads, b);
+    let count = count_at(heads, b);
+    let k = s.k as usize;
+    let from = 4 * (b * k);
+    let to = from + 4 * k;
+    push(&mut entries[from..to], k, oldest as usize, count as usize, e);
+    put_head(heads, b, oldest, count + 1);
+}
+
+// Places an entry in the buffer of its cell's bank; false, and nothing changed, where that holds K.
+pub fn place(s: Setup, e: Entry, entries: &mut [u32], heads: &mut [u32]) -> bool
+    requires { ⌜ Buffer s (bankOf s (e .cell)) (buffersIn (now entries) (now heads)) ⌝ }
+    ensures { λ r. ⌜ (r, buffersIn (now (entries .exit)) (now (heads .exit))) ≡ placed s e (buffersIn (now (entries .entry)) (now (heads .entry))) ⌝ }
+{
+    let cell = e.cell;
+    let b = cell.bank(s) as usize;
+    let count = count_at(heads, b);
+    if count == (s.k as u32) {
+        return false;
+    }
+    place_at(s, b, e, entries, heads);
+    true
+}
+
+// The range check of answer 3.
+
+// Oldest place below K, count at most K.
+fn head_ok(s: Setup, b: usize, heads: &[u32]) -> bool
+    requires { ⌜ 2 * b + 2 ≤ length (now heads) ⌝ }
+    ensures { λ r. ⌜ r ≡ headOk s (now (heads .entry)) b ⌝ }
+{
+    let k = s.k as u32;
+    (oldest_at(heads, b) < k) & (count_at(heads, b) <= k)
+}
+
+// The entries that wait at bank b, whose head is in range.
+fn waiting_ok(s: Setup, b: usize, entries: &[u32], heads: &[u32]) -> bool
+    requires { ⌜ Buffer s b (buffersIn (now entries) (now heads)) ⌝ }
+    ensures { λ r. ⌜ r ≡ entriesOk s (buffersIn (now (entries .entry)) (now (heads .entry))) b (countOf (now (heads .entry)) b) ⌝ }
+{
+    let k = s.k as usize;
+    let from = 4 * (b * k);
+    let to = from + 4 * k;
+    let oldest = oldest_at(heads, b) as usize;
+    let count = count_at(heads, b) as usize;
+    part_ok(&entries[from..to], k, oldest, count, s.words(), s.c as u32)
+}
+
+// The head first: one out of range would lead to a read outside the part.
+fn buffer_ok(s: Setup, b: usize, entries: &[u32], heads: &[u32]) -> bool
+    requires { ⌜ Room s (buffersIn (now entries) (now heads)) × (b < banksOf s) ⌝ }
+    ensures { λ r. ⌜ r ≡ bufferOk s (buffersIn (now (entries .entry)) (now (heads .entry))) b ⌝ }
+{
+    if head_ok(s, b, heads) {
+        return waiting_ok(s, b, entries, heads);
+    }
+    false
+}
+
+// Each of the B buffers.
+pub fn buffers_ok(s: Setup, entries: &[u32], heads: &[u32]) -> bool
+    requires { ⌜ Room s (buffersIn (now entries) (now heads)) ⌝ }
+    ensures { λ r. ⌜ r ≡ buffersOk s (buffersIn (now (entries .entry)) (now (heads .entry))) (banksOf s) ⌝ }
+{
+    let banks = s.banks() as usize;
+    let mut ok = true;
+    let mut b: usize = 0;
+    while b < banks {
+        ok = ok & buffer_ok(s, b, entries, heads);
+        b += 1;
+    }
+    ok
+}

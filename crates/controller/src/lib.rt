@@ -1,0 +1,224 @@
+// The controller: a fresh start, a cycle and a question, over memory that the caller lends.
+ghost use mathlib.Core.Path.{_≡_};
+ghost use mathlib.Core.Bool.{true};
+ghost use Prim.Native.Nat.{_*_};
+ghost use lib.ListN.{length, replicate};
+ghost use Rattle.setup.specs.Setup.{Ranges};
+ghost use Rattle.model.specs.Lent.{buffersIn, lent};
+ghost use Rattle.model.specs.Range.{lengthsOk, numbersOk};
+ghost use Rattle.model.specs.Calls.{addressOk, refusalOf, refusedBy, freshOf, cycleOf, waitingOf, questionOf};
+ghost use Rattle.controller.specs.Known.{Exact};
+use model::Cycled;
+use model::Started;
+use model::State;
+use model::Waiting;
+use port::Delivery;
+use port::Operation;
+use port::Reply;
+use setup::Checked;
+use setup::Setup;
+
+mod steps;
+
+// Whether every lent length is exact.
+fn lengths_ok(s: Setup, memory: &[u32], rows: &[u32], entries: &[u32], heads: &[u32]) -> bool
+    requires { ⌜ Ranges s ⌝ }
+    ensures { λ r. ⌜ r ≡ lengthsOk s (lent (now (memory .entry)) (now (rows .entry)) (now (entries .entry)) (now (heads .entry))) ⌝ }
+{
+    let banks = s.banks() as usize;
+    (memory.len() == s.words() as usize)
+        & (rows.len() == 4 * (s.c as usize))
+        & (entries.len() == 4 * (banks * (s.k as usize)))
+        & (heads.len() == 2 * banks)
+}
+
+// Whether every number in state, row or entry is in the range its meaning allows.
+fn numbers_ok(s: Setup, t: State, rows: &[u32], entries: &[u32], heads: &[u32]) -> bool
+    requires { ⌜ Exact s (now rows) (now entries) (now heads) ⌝ }
+    ensures { λ r. ⌜ r ≡ numbersOk s t (now (rows .entry)) (buffersIn (now (entries .entry)) (now (heads .entry))) ⌝ }
+{
+    let turn = (t.turn < s.m as u32) & (t.position < s.c as u32);
+    let table = table::rows_ok(rows, s.c as usize, s.words());
+    turn & table & buffers::buffers_ok(s, entries, heads)
+}
+
+// Whether the operation's address, if it has one, is below N.
+fn address_ok(s: Setup, op: Operation) -> bool
+    requires { ⌜ Ranges s ⌝ }
+    ensures { λ r. ⌜ r ≡ addressOk s op ⌝ }
+{
+    match op {
+        Operation::Idle => true,
+        Operation::Read(a) => a.0 < s.words(),
+        Operation::Write(a, _) => a.0 < s.words(),
+    }
+}
+
+// The number of the first refusal that applies to a setup in range, or 0.
+fn refusal(
+    s: Setup,
+    t: State,
+    op: Operation,
+    memory: &[u32],
+    rows: &[u32],
+    entries: &[u32],
+    heads: &[u32],
+) -> u32
+    requires { ⌜ Ranges s ⌝ }
+    ensures { λ r. ⌜ r ≡ refusalOf s t op (lent (now (memory .entry)) (now (rows .entry)) (now (entries .entry)) (now (heads .entry))) ⌝ }
+{
+    if lengths_ok(s, memory, rows, entries, heads) {
+        if numbers_ok(s, t, rows, entries, heads) {
+            if t.stopped {
+                return answers::STOPPED;
+            }
+            if address_ok(s, op) {
+                return answers::DONE;
+            }
+            return answers::BAD_ADDRESS;
+        }
+        return answers::BAD_STATE;
+    }
+    answers::BAD_LENGTH
+}
+
+// A refused call: delivery none, stamp 0, and the state as it was.
+fn refuse(answer: u32, t: State) -> Cycled
+    ensures { λ r. ⌜ r ≡ refusedBy answer t ⌝ }
+{
+    Cycled {
+        state: t,
+        reply: Reply {
+            answer,
+            delivery: Delivery::None,
+            stamp: 0,
+        },
+    }
+}
+
+// One cycle.
+pub fn cycle(
+    setup: Setup,
+    t: State,
+    op: Operation,
+    memory: &mut [u32],
+    rows: &mut [u32],
+    entries: &mut [u32],
+    heads: &mut [u32],
+) -> Cycled
+    ensures { λ r. ⌜ (r, lent (now (memory .exit)) (now (rows .exit)) (now (entries .exit)) (now (heads .exit))) ≡ cycleOf setup t op (lent (now (memory .entry)) (now (rows .entry)) (now (entries .entry)) (now (heads .entry))) ⌝ }
+{
+    let Checked::Good(s) = Setup::checked(setup) else {
+        return refuse(answers::BAD_SETUP, t);
+    };
+    let n = refusal(s, t, op, memory, rows, entries, heads);
+    if n != answers::DONE {
+        return refuse(n, t);
+    }
+    steps::pass(s, t, op, memory, rows, entries, heads)
+}
+
+// Fills the room with zeros.
+fn clear(room: &mut [u32])
+    ensures { λ _. ⌜ now (room .exit) ≡ replicate (length (now (room .entry))) 0 ⌝ }
+{
+    let mut i = 0;
+    while i < room.len() {
+        room[i] = 0;
+        i += 1;
+    }
+}
+
+// A fresh start: rows and buffers are emptied, and the memory words stay.
+pub fn fresh_start(
+    setup: Setup,
+    t: State,
+    memory: &mut [u32],
+    rows: &mut [u32],
+    entries: &mut [u32],
+    heads: &mut [u32],
+) -> Started
+    ensures { λ r. ⌜ (r, lent (now (memory .exit)) (now (rows .exit)) (now (entries .exit)) (now (heads .exit))) ≡ freshOf setup t (lent (now (memory .entry)) (now (rows .entry)) (now (entries .entry)) (now (heads .entry))) ⌝ }
+{
+    let Checked::Good(s) = Setup::checked(setup) else {
+        return Started {
+            answer: answers::BAD_SETUP,
+            state: t,
+        };
+    };
+    if lengths_ok(s, memory, rows, entries, heads) {
+        clear(rows);
+        clear(heads);
+        return Started {
+            answer: answers::DONE,
+            state: State {
+                stamp: 0,
+                turn: 0,
+                position: 0,
+                stopped: false,
+            },
+        };
+    }
+    Started {
+        answer: answers::BAD_LENGTH,
+        state: t,
+    }
+}
+
+// How many entries wait at one bank.
+pub fn waiting(
+    setup: Setup,
+    t: State,
+    bank: u32,
+    memory: &[u32],
+    rows: &[u32],
+    entries: &[u32],
+    heads: &[u32],
+) -> Waiting
+    ensures { λ r. ⌜ r ≡ waitingOf setup t bank (lent (now (memory .entry)) (now (rows .entry)) (now (entries .entry)) (now (heads .entry))) ⌝ }
+{
+    let Checked::Good(s) = Setup::checked(setup) else {
+        return Waiting {
+            answer: answers::BAD_SETUP,
+            count: 0,
+        };
+    };
+    question(s, t, bank, memory, rows, entries, heads)
+}
+
+// A question about a setup in range.
+fn question(
+    s: Setup,
+    t: State,
+    bank: u32,
+    memory: &[u32],
+    rows: &[u32],
+    entries: &[u32],
+    heads: &[u32],
+) -> Waiting
+    requires { ⌜ Ranges s ⌝ }
+    ensures { λ r. ⌜ r ≡ questionOf s t bank (lent (now (memory .entry)) (now (rows .entry)) (now (entries .entry)) (now (heads .entry))) ⌝ }
+{
+    if lengths_ok(s, memory, rows, entries, heads) {
+        if numbers_ok(s, t, rows, entries, heads) {
+            if bank < s.banks() {
+                return Waiting {
+                    answer: answers::DONE,
+                    count: buffers::count_at(heads, bank as usize),
+                };
+            }
+            return Waiting {
+                answer: answers::BAD_ADDRESS,
+                count: 0,
+            };
+        }
+        return Waiting {
+            answer: answers::BAD_STATE,
+            count: 0,
+        };
+    }
+    Waiting {
+        answer: answers::BAD_LENGTH,
+        count: 0,
+    }
+}

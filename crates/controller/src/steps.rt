@@ -1,0 +1,385 @@
+// One cycle: service, delivery, retirement, arrival, in this order.
+ghost use mathlib.Core.Path.{_≡_};
+ghost use Prim.Native.Nat.{_+_, _*_, _%_, _≤_, _<_};
+ghost use lib.ListN.{length};
+ghost use Rattle.setup.specs.Choice.{pick};
+ghost use Rattle.setup.specs.Setup.{Ranges, banksOf};
+ghost use Rattle.model.specs.Lent.{Lent, lent, buffersIn, emptyRow};
+ghost use Rattle.model.specs.Cycle.{carried, servedBank, servedIf, served, delivered, leaves, writeOf, readOf, retired, joined, readPlaced, readMerged, readArrived, writeArrived, newestLive, arrived, nextState, stoppedState, cycled, passed};
+ghost use Rattle.answers.specs.Answers.{done, dropped};
+ghost use Rattle.model.specs.Range.{Good, Ready};
+ghost use Rattle.controller.specs.Known.{Fit};
+use map::Address;
+use model::Cycled;
+use model::Entry;
+use model::Found;
+use model::Row;
+use model::State;
+use port::Delivery;
+use port::Operation;
+use port::Reply;
+use setup::Setup;
+
+// Carries an entry out: a write stores its word at its cell; a read's word goes to its row and to every row waiting on that row.
+fn carry(s: Setup, e: Entry, memory: &mut [u32], rows: &mut [u32])
+    requires { ⌜ (length (now rows) ≡ 4 * s .c) × (s .c ≤ 4096) × (e .cell .0 < length (now memory)) ⌝ }
+    ensures { λ _. ⌜ (now (memory .exit), now (rows .exit)) ≡ carried s e (now (memory .entry), now (rows .entry)) ⌝ }
+{
+    let at = e.cell.0 as usize;
+    if e.kind == Entry::WRITE {
+        memory[at] = e.word;
+        return;
+    }
+    let word = memory[at];
+    table::fill(rows, s.c as usize, e.row, word);
+}
+
+// Serves bank b: its oldest entry, if any.
+fn serve_bank(
+    s: Setup,
+    b: usize,
+    memory: &mut [u32],
+    rows: &mut [u32],
+    entries: &[u32],
+    heads: &mut [u32],
+)
+    requires { ⌜ Good s (lent (now memory) (now rows) (now entries) (now heads)) × (b < banksOf s) ⌝ }
+    ensures { λ _. ⌜ lent (now (memory .exit)) (now (rows .exit)) (now (entries .entry)) (now (heads .exit)) ≡ servedBank s b (lent (now (memory .entry)) (now (rows .entry)) (now (entries .entry)) (now (heads .entry))) ⌝ }
+{
+    if buffers::count_at(heads, b) == 0 {
+        return;
+    }
+    let e = buffers::oldest_entry(s, b, entries, heads);
+    buffers::pop(s, b, heads);
+    carry(s, e, memory, rows);
+}
+
+// Serves bank b if it is its turn.
+fn serve_if(
+    s: Setup,
+    turn: u32,
+    b: usize,
+    memory: &mut [u32],
+    rows: &mut [u32],
+    entries: &[u32],
+    heads: &mut [u32],
+)
+    requires { ⌜ Good s (lent (now memory) (now rows) (now entries) (now heads)) × (b < banksOf s) ⌝ }
+    ensures { λ _. ⌜ lent (now (memory .exit)) (now (rows .exit)) (now (entries .entry)) (now (heads .exit)) ≡ servedIf s turn b (lent (now (memory .entry)) (now (rows .entry)) (now (entries .entry)) (now (heads .entry))) ⌝ }
+{
+    if b % (s.m as usize) == turn as usize {
+        serve_bank(s, b, memory, rows, entries, heads);
+    }
+}
+
+// Serves each bank whose turn it is, in rising order.
+fn serve(
+    s: Setup,
+    turn: u32,
+    memory: &mut [u32],
+    rows: &mut [u32],
+    entries: &[u32],
+    heads: &mut [u32],
+)
+    requires { ⌜ Good s (lent (now memory) (now rows) (now entries) (now heads)) ⌝ }
+    ensures { λ _. ⌜ lent (now (memory .exit)) (now (rows .exit)) (now (entries .entry)) (now (heads .exit)) ≡ served s turn (lent (now (memory .entry)) (now (rows .entry)) (now (entries .entry)) (now (heads .entry))) ⌝ }
+{
+    let banks = s.banks() as usize;
+    let mut b = 0;
+    while b < banks {
+        serve_if(s, turn, b, memory, rows, entries, heads);
+        b += 1;
+    }
+}
+
+// What a row delivers.
+fn leave(r: Row) -> Delivery
+    ensures { λ d. ⌜ d ≡ leaves r ⌝ }
+{
+    if r.kind == Row::READ {
+        return Delivery::Word(r.word);
+    }
+    if r.kind == Row::WAITING {
+        return Delivery::Unready;
+    }
+    Delivery::None
+}
+
+// Looks at the row filled a delay ago.
+fn deliver(s: Setup, position: usize, rows: &[u32]) -> Delivery
+    requires { ⌜ Ranges s × (length (now rows) ≡ 4 * s .c) × (position < s .c) ⌝ }
+    ensures { λ d. ⌜ d ≡ delivered s position (now (rows .entry)) ⌝ }
+{
+    let at = places::back(s.c as usize, position, s.delta as usize);
+    leave(table::row_at(rows, at))
+}
+
+// The entry of a write: it carries its own cell and word.
+fn write_entry(s: Setup, a: Address, word: u32) -> Entry
+    requires { ⌜ Ranges s ⌝ }
+    ensures { λ e. ⌜ e ≡ writeOf s a word ⌝ }
+{
+    let cell = a.cell(s);
+    Entry {
+        kind: Entry::WRITE,
+        row: 0,
+        cell,
+        word,
+    }
+}
+
+// The entry of a read, for the row at the position.
+fn read_entry(s: Setup, position: u32, a: Address) -> Entry
+    requires { ⌜ Ranges s ⌝ }
+    ensures { λ e. ⌜ e ≡ readOf s position a ⌝ }
+{
+    let cell = a.cell(s);
+    Entry {
+        kind: Entry::READ,
+        row: position,
+        cell,
+        word: 0,
+    }
+}
+
+// Gives up the row filled C cycles ago. False where its write needs a place in a full buffer.
+fn retire(s: Setup, position: usize, rows: &[u32], entries: &mut [u32], heads: &mut [u32]) -> bool
+    requires { ⌜ Fit s (now rows) (now entries) (now heads) × (position < s .c) ⌝ }
+    ensures { λ r. ⌜ (r, buffersIn (now (entries .exit)) (now (heads .exit))) ≡ retired s position (now (rows .entry)) (buffersIn (now (entries .entry)) (now (heads .entry))) ⌝ }
+{
+    let r = table::row_at(rows, position);
+    if (s.mode == 1) & (r.kind == Row::WRITE) {
+        let a = r.address;
+        let Found::At(_) = table::newest_write(rows, s.c as usize, position, a) else {
+            return buffers::place(s, write_entry(s, a, r.word), entries, heads);
+        };
+    }
+    true
+}
+
+// An empty row.
+fn empty() -> Row
+    ensures { λ r. ⌜ r ≡ emptyRow ⌝ }
+{
+    Row {
+        kind: Row::EMPTY,
+        address: Address(0),
+        word: 0,
+        link: 0,
+    }
+}
+
+// The row of an operation whose entry found a place, or of one that is dropped.
+fn seat(taken: bool, r: Row) -> Row
+    ensures { λ x. ⌜ x ≡ pick taken r emptyRow ⌝ }
+{
+    if taken { r } else { empty() }
+}
+
+// A read that finds a row of its address: with its word at once, or waiting on the row whose entry is in the buffer.
+fn join(a: Address, r: Row) -> Row
+    ensures { λ x. ⌜ x ≡ joined a r ⌝ }
+{
+    if r.kind == Row::WAITING {
+        return Row {
+            kind: Row::WAITING,
+            address: a,
+            word: 0,
+            link: r.link,
+        };
+    }
+    Row {
+        kind: Row::READ,
+        address: a,
+        word: r.word,
+        link: 0,
+    }
+}
+
+// A read places an entry, and its row waits on itself.
+fn place_read(
+    s: Setup,
+    position: u32,
+    a: Address,
+    rows: &mut [u32],
+    entries: &mut [u32],
+    heads: &mut [u32],
+) -> bool
+    requires { ⌜ Fit s (now rows) (now entries) (now heads) × (position < s .c) ⌝ }
+    ensures { λ r. ⌜ (r, (now (rows .exit), buffersIn (now (entries .exit)) (now (heads .exit)))) ≡ readPlaced s position a (now (rows .entry)) (buffersIn (now (entries .entry)) (now (heads .entry))) ⌝ }
+{
+    let taken = buffers::place(s, read_entry(s, position, a), entries, heads);
+    let r = seat(
+        taken,
+        Row {
+            kind: Row::WAITING,
+            address: a,
+            word: 0,
+            link: position,
+        },
+    );
+    table::put_row(rows, position as usize, r);
+    taken
+}
+
+// A merging read: it joins the newest live row of its address, or places an entry.
+fn merge_read(
+    s: Setup,
+    position: u32,
+    a: Address,
+    rows: &mut [u32],
+    entries: &mut [u32],
+    heads: &mut [u32],
+) -> bool
+    requires { ⌜ Fit s (now rows) (now entries) (now heads) × (position < s .c) ⌝ }
+    ensures { λ r. ⌜ (r, (now (rows .exit), buffersIn (now (entries .exit)) (now (heads .exit)))) ≡ readMerged s position a (newestLive s position a (now (rows .entry))) (now (rows .entry)) (buffersIn (now (entries .entry)) (now (heads .entry))) ⌝ }
+{
+    let at = position as usize;
+    let Found::At(i) = table::newest_live(rows, s.c as usize, at, a) else {
+        return place_read(s, position, a, rows, entries, heads);
+    };
+    let r = join(a, table::row_at(rows, i));
+    table::put_row(rows, at, r);
+    true
+}
+
+// A read arrives.
+fn arrive_read(
+    s: Setup,
+    position: u32,
+    a: Address,
+    rows: &mut [u32],
+    entries: &mut [u32],
+    heads: &mut [u32],
+) -> bool
+    requires { ⌜ Fit s (now rows) (now entries) (now heads) × (position < s .c) ⌝ }
+    ensures { λ r. ⌜ (r, (now (rows .exit), buffersIn (now (entries .exit)) (now (heads .exit)))) ≡ readArrived s position a (now (rows .entry)) (buffersIn (now (entries .entry)) (now (heads .entry))) ⌝ }
+{
+    if s.mode == 1 {
+        return merge_read(s, position, a, rows, entries, heads);
+    }
+    place_read(s, position, a, rows, entries, heads)
+}
+
+// A write arrives: merging it places nothing, plain it places an entry.
+fn arrive_write(
+    s: Setup,
+    position: u32,
+    a: Address,
+    word: u32,
+    rows: &mut [u32],
+    entries: &mut [u32],
+    heads: &mut [u32],
+) -> bool
+    requires { ⌜ Fit s (now rows) (now entries) (now heads) × (position < s .c) ⌝ }
+    ensures { λ r. ⌜ (r, (now (rows .exit), buffersIn (now (entries .exit)) (now (heads .exit)))) ≡ writeArrived s position a word (now (rows .entry)) (buffersIn (now (entries .entry)) (now (heads .entry))) ⌝ }
+{
+    let r = Row {
+        kind: Row::WRITE,
+        address: a,
+        word,
+        link: 0,
+    };
+    if s.mode == 1 {
+        table::put_row(rows, position as usize, r);
+        return true;
+    }
+    let taken = buffers::place(s, write_entry(s, a, word), entries, heads);
+    table::put_row(rows, position as usize, seat(taken, r));
+    taken
+}
+
+// The operation arrives and fills the row at the position. True where it is taken.
+fn arrive(
+    s: Setup,
+    position: u32,
+    op: Operation,
+    rows: &mut [u32],
+    entries: &mut [u32],
+    heads: &mut [u32],
+) -> bool
+    requires { ⌜ Fit s (now rows) (now entries) (now heads) × (position < s .c) ⌝ }
+    ensures { λ r. ⌜ (r, (now (rows .exit), buffersIn (now (entries .exit)) (now (heads .exit)))) ≡ arrived s position op (now (rows .entry)) (buffersIn (now (entries .entry)) (now (heads .entry))) ⌝ }
+{
+    match op {
+        Operation::Idle => {
+            table::put_row(rows, position as usize, empty());
+            true
+        }
+        Operation::Read(a) => arrive_read(s, position, a, rows, entries, heads),
+        Operation::Write(a, word) => arrive_write(s, position, a, word, rows, entries, heads),
+    }
+}
+
+// The state of the next cycle: the stamp wraps on purpose, turn and position are kept apart from it.
+fn next_state(s: Setup, t: State) -> State
+    requires { ⌜ Ranges s × (t .turn < s .m) × (t .position < s .c) ⌝ }
+    ensures { λ r. ⌜ r ≡ nextState s t ⌝ }
+{
+    State {
+        stamp: std::num::wrapping_add_u32(t.stamp, 1),
+        turn: places::onward(s.m as usize, t.turn as usize, 1) as u32,
+        position: places::onward(s.c as usize, t.position as usize, 1) as u32,
+        stopped: t.stopped,
+    }
+}
+
+// Stamp, turn and position stay, and the state is marked stopped.
+fn stopped_state(t: State) -> State
+    ensures { λ r. ⌜ r ≡ stoppedState t ⌝ }
+{
+    State {
+        stamp: t.stamp,
+        turn: t.turn,
+        position: t.position,
+        stopped: true,
+    }
+}
+
+// The answer of a cycle that passes.
+fn answer_of(taken: bool) -> u32
+    ensures { λ r. ⌜ r ≡ pick taken done dropped ⌝ }
+{
+    if taken {
+        answers::DONE
+    } else {
+        answers::DROPPED
+    }
+}
+
+// What a cycle returns: the reply's stamp is this cycle's.
+fn cycled(t: State, answer: u32, delivery: Delivery, next: State) -> Cycled
+    ensures { λ r. ⌜ r ≡ cycled t answer delivery next ⌝ }
+{
+    Cycled {
+        state: next,
+        reply: Reply {
+            answer,
+            delivery,
+            stamp: t.stamp,
+        },
+    }
+}
+
+// A cycle of a machine that nothing refuses.
+pub fn pass(
+    s: Setup,
+    t: State,
+    op: Operation,
+    memory: &mut [u32],
+    rows: &mut [u32],
+    entries: &mut [u32],
+    heads: &mut [u32],
+) -> Cycled
+    requires { ⌜ Ready s t (lent (now memory) (now rows) (now entries) (now heads)) ⌝ }
+    ensures { λ r. ⌜ (r, lent (now (memory .exit)) (now (rows .exit)) (now (entries .exit)) (now (heads .exit))) ≡ passed s t op (lent (now (memory .entry)) (now (rows .entry)) (now (entries .entry)) (now (heads .entry))) ⌝ }
+{
+    serve(s, t.turn, memory, rows, entries, heads);
+    let position = t.position as usize;
+    let delivery = deliver(s, position, rows);
+    if retire(s, position, rows, entries, heads) {
+        let taken = arrive(s, t.position, op, rows, entries, heads);
+        return cycled(t, answer_of(taken), delivery, next_state(s, t));
+    }
+    cycled(t, answers::STOPPING, delivery, stopped_state(t))
+}
