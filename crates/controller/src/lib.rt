@@ -6,7 +6,7 @@ ghost use lib.ListN.{length, replicate};
 ghost use Rattle.setup.specs.Setup.{Ranges};
 ghost use Rattle.model.specs.Lent.{buffersIn, lent};
 ghost use Rattle.model.specs.Range.{lengthsOk, numbersOk};
-ghost use Rattle.model.specs.Calls.{addressOk, refusalOf, refusedBy, freshOf, cycleOf, waitingOf, questionOf};
+ghost use Rattle.model.specs.Calls.{addressOk, refusalOf, refusedBy, freshState, startOf, freshOf, turnOf, cycleOf, questionOf, waitingOf};
 ghost use Rattle.controller.specs.Known.{Exact};
 use model::Cycled;
 use model::Started;
@@ -96,6 +96,26 @@ fn refuse(answer: u32, t: State) -> Cycled
     }
 }
 
+// A cycle under a setup in range.
+fn turn(
+    s: Setup,
+    t: State,
+    op: Operation,
+    memory: &mut [u32],
+    rows: &mut [u32],
+    entries: &mut [u32],
+    heads: &mut [u32],
+) -> Cycled
+    requires { ⌜ Ranges s ⌝ }
+    ensures { λ r. ⌜ (r, lent (now (memory .exit)) (now (rows .exit)) (now (entries .exit)) (now (heads .exit))) ≡ turnOf s t op (lent (now (memory .entry)) (now (rows .entry)) (now (entries .entry)) (now (heads .entry))) ⌝ }
+{
+    let n = refusal(s, t, op, memory, rows, entries, heads);
+    if n != answers::DONE {
+        return refuse(n, t);
+    }
+    steps::pass(s, t, op, memory, rows, entries, heads)
+}
+
 // One cycle.
 pub fn cycle(
     setup: Setup,
@@ -111,11 +131,7 @@ pub fn cycle(
     let Checked::Good(s) = Setup::checked(setup) else {
         return refuse(answers::BAD_SETUP, t);
     };
-    let n = refusal(s, t, op, memory, rows, entries, heads);
-    if n != answers::DONE {
-        return refuse(n, t);
-    }
-    steps::pass(s, t, op, memory, rows, entries, heads)
+    turn(s, t, op, memory, rows, entries, heads)
 }
 
 // Fills the room with zeros.
@@ -129,16 +145,54 @@ fn clear(room: &mut [u32])
     }
 }
 
-// A fresh start: rows and buffers are emptied, and the memory words stay.
+// The state of the first cycle after a fresh start.
+fn first_state() -> State
+    ensures { λ r. ⌜ r ≡ freshState ⌝ }
+{
+    State {
+        stamp: 0,
+        turn: 0,
+        position: 0,
+        stopped: false,
+    }
+}
+
+// A fresh start under a setup in range: rows and buffers are emptied, and the memory words stay.
+fn start(
+    s: Setup,
+    t: State,
+    memory: &[u32],
+    rows: &mut [u32],
+    entries: &[u32],
+    heads: &mut [u32],
+) -> Started
+    requires { ⌜ Ranges s ⌝ }
+    ensures { λ r. ⌜ (r, lent (now (memory .entry)) (now (rows .exit)) (now (entries .entry)) (now (heads .exit))) ≡ startOf s t (lent (now (memory .entry)) (now (rows .entry)) (now (entries .entry)) (now (heads .entry))) ⌝ }
+{
+    if lengths_ok(s, memory, rows, entries, heads) {
+        clear(rows);
+        clear(heads);
+        return Started {
+            answer: answers::DONE,
+            state: first_state(),
+        };
+    }
+    Started {
+        answer: answers::BAD_LENGTH,
+        state: t,
+    }
+}
+
+// A fresh start.
 pub fn fresh_start(
     setup: Setup,
     t: State,
-    memory: &mut [u32],
+    memory: &[u32],
     rows: &mut [u32],
-    entries: &mut [u32],
+    entries: &[u32],
     heads: &mut [u32],
 ) -> Started
-    ensures { λ r. ⌜ (r, lent (now (memory .exit)) (now (rows .exit)) (now (entries .exit)) (now (heads .exit))) ≡ freshOf setup t (lent (now (memory .entry)) (now (rows .entry)) (now (entries .entry)) (now (heads .entry))) ⌝ }
+    ensures { λ r. ⌜ (r, lent (now (memory .entry)) (now (rows .exit)) (now (entries .entry)) (now (heads .exit))) ≡ freshOf setup t (lent (now (memory .entry)) (now (rows .entry)) (now (entries .entry)) (now (heads .entry))) ⌝ }
 {
     let Checked::Good(s) = Setup::checked(setup) else {
         return Started {
@@ -146,23 +200,7 @@ pub fn fresh_start(
             state: t,
         };
     };
-    if lengths_ok(s, memory, rows, entries, heads) {
-        clear(rows);
-        clear(heads);
-        return Started {
-            answer: answers::DONE,
-            state: State {
-                stamp: 0,
-                turn: 0,
-                position: 0,
-                stopped: false,
-            },
-        };
-    }
-    Started {
-        answer: answers::BAD_LENGTH,
-        state: t,
-    }
+    start(s, t, memory, rows, entries, heads)
 }
 
 // How many entries wait at one bank.

@@ -34,10 +34,13 @@ freshLent s x = lent (x .memory) (replicate (4 * s .c) 0) (x .buffers .entries) 
 abbrev pub started : ℕ → State → Started
 started answer t = record { answer = answer; state = t }
 
+-- of a setup in range
+unfoldable pub startOf : Setup → State → Lent → Started × Lent
+startOf s t x = pick (lengthsOk s x) (started done freshState, freshLent s x) (started badLength t, x)
+
 unfoldable pub freshIn : Checked → State → Lent → Started × Lent
 freshIn Refused t x = (started badSetup t, x)
-freshIn (Good s) t x =
-    pick (lengthsOk s x) (started done freshState, freshLent s x) (started badLength t, x)
+freshIn (Good s) t x = startOf s t x
 
 abbrev pub freshOf : Setup → State → Lent → Started × Lent
 freshOf s t x = freshIn (checkedOf s) t x
@@ -65,10 +68,13 @@ refusedBy n t = record { state = t; reply = record { answer = n; delivery = None
 abbrev pub refused : ℕ → State → Lent → Cycled × Lent
 refused n t x = (refusedBy n t, x)
 
+unfoldable pub turnOf : Setup → State → Operation → Lent → Cycled × Lent
+turnOf s t op x =
+    pick (eqb (refusalOf s t op x) done) (passed s t op x) (refused (refusalOf s t op x) t x)
+
 unfoldable pub cycleIn : Checked → State → Operation → Lent → Cycled × Lent
 cycleIn Refused t op x = refused badSetup t x
-cycleIn (Good s) t op x =
-    pick (eqb (refusalOf s t op x) done) (passed s t op x) (refused (refusalOf s t op x) t x)
+cycleIn (Good s) t op x = turnOf s t op x
 
 abbrev pub cycleOf : Setup → State → Operation → Lent → Cycled × Lent
 cycleOf s t op x = cycleIn (checkedOf s) t op x

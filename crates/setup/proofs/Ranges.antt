@@ -1,5 +1,7 @@
 -- What a setup whose numbers pass the tests is known to be, and the three ways through `checked`. Assumes nothing.
-use Prim.Native.Nat.{ℕ}
+use Prim.Native.Nat.{ℕ, _*_, _≤_}
+use native.Mathlib.Nat.{mul-le-mul}
+use lib.Pow.{pow-pos, pow-mono}
 use native.Mathlib.Omega.{arith}
 use mathlib.Core.Path.{_≡_, refl, sym, subst, _∙_}
 use mathlib.Core.Bool.{Bool, true, false, _&&_}
@@ -8,7 +10,7 @@ use Rattle.setup.specs.declared.Setup.{Setup}
 use Rattle.setup.specs.declared.Checked.{Checked}
 use Rattle.setup.specs.declared.Checked.the-variants.{Good, Refused}
 use Rattle.setup.specs.Choice.{pick}
-use Rattle.setup.specs.Setup.{sizesOk, restOk, inRange, Sizes, Ranges, withDefaults, checkedOf}
+use Rattle.setup.specs.Setup.{sizesOk, restOk, inRange, Sizes, Ranges, withDefaults, checkedOf, wordsOf, banksOf}
 
 pub and-l : (x y : Bool) → x && y ≡ true → x ≡ true
 and-l true y h = refl
@@ -52,3 +54,18 @@ good-ranges s f r e h = let p = picked (inRange (withDefaults s)) (withDefaults 
 
 pub good-sizes : (s f : Setup) (r : Checked) → r ≡ checkedOf s → r ≡ Good f → Sizes f
 good-sizes s f r e h = good-ranges s f r e h .sizes
+
+------------------------------------------------------------------------
+-- How large the lent slices can be
+
+pub words-most : (s : Setup) → Sizes s → wordsOf s ≤ 1048576
+words-most s z = pow-mono {j = 20} (z .a-most)
+
+pub banks-most : (s : Setup) → Sizes s → banksOf s ≤ 64
+banks-most s z = pow-mono {j = 6} (z .s-most)
+
+pub banks-least : (s : Setup) → 1 ≤ banksOf s
+banks-least s = pow-pos (s .s)
+
+pub places-most : (s : Setup) → Sizes s → banksOf s * s .k ≤ 8192
+places-most s z = mul-le-mul (banks-most s z) (z .k-most)

@@ -1,0 +1,148 @@
+-- Retirement and arrival keep rows and buffers good. Assumes nothing.
+use Prim.Native.Nat.{ℕ, _-_, _<_}
+use native.Mathlib.Omega.{arith}
+use mathlib.Core.Path.{_≡_, refl, sym, subst}
+use mathlib.Core.Bool.{Bool, true}
+use mathlib.Core.List.{List}
+use lib.Dec.{eqb}
+use borrow.Author.Tests.{ltb-true, eqb-true}
+use Rattle.setup.specs.Choice.{pick}
+use Rattle.setup.specs.Setup.{Ranges, wordsOf}
+use Rattle.setup.specs.declared.Setup.{Setup}
+use Rattle.map.specs.declared.Address.{Address}
+use Rattle.map.proofs.Split.{within-memory}
+use Rattle.port.specs.declared.Operation.{Operation}
+use Rattle.port.specs.declared.Operation.the-variants.{Idle, Read, Write}
+use Rattle.model.specs.declared.Row.{Row}
+use Rattle.model.specs.declared.Found.{Found}
+use Rattle.model.specs.declared.Found.the-variants.{At, Nothing}
+use Rattle.model.specs.Lent.{Lent, Buffers, writeKind, readKind, waitingKind, rowWith, rowAt, emptyRow}
+use Rattle.model.specs.Range.{rowOk, entryOk, Good}
+use Rattle.model.specs.Cycle.{isOf, newestLive, newestWrite, placed, writeOf, readOf, retiredWrite, retired, Arrived, seated, readPlaced, joined, readMerged, arrived}
+use Rattle.model.specs.Calls.{addressOk}
+use Rattle.model.proofs.Tests.{pick-good, pick-either}
+use Rattle.model.proofs.Range.{row-ok, row-link, entry-ok}
+use Rattle.model.proofs.Rows.{GoodRows, put-row-good, scan-below}
+use Rattle.model.proofs.Buffers.{GoodBuffers, placed-good}
+use Rattle.model.proofs.Good.{good-rows, good-buffers, good-parts, withBuffers, with-buffers-good}
+
+------------------------------------------------------------------------
+-- Entries of any address are in range
+
+module _ (s : Setup) (r : Ranges s) (a : Address) where
+  pub write-entry-ok : (w : ℕ) → entryOk (wordsOf s) (s .c) (writeOf s a w) ≡ true
+  write-entry-ok w =
+      entry-ok (wordsOf s) (s .c) (writeOf s a w) (omega arith) (within-memory s a r .0) (λ e. absurd (omega arith))
+
+  pub read-entry-ok : (position : ℕ) → position < s .c → entryOk (wordsOf s) (s .c) (readOf s position a) ≡ true
+  read-entry-ok position h =
+      entry-ok (wordsOf s) (s .c) (readOf s position a) (omega arith) (within-memory s a r .0) (λ e. h)
+
+------------------------------------------------------------------------
+-- Retirement
+
+module _ (s : Setup) (r : Ranges s) (q : Buffers) (g : GoodBuffers s q) where
+  retired-write-good : (x : Row) (f : Found) → GoodBuffers s (retiredWrite s x f q .1)
+  retired-write-good x (At i) = g
+  retired-write-good x Nothing =
+      placed-good s (writeOf s (x .address) (x .word)) q g (write-entry-ok s r (x .address) (x .word))
+
+  pub retired-buffers-good : (position : ℕ) (rows : List ℕ) → GoodBuffers s (retired s position rows q .1)
+  unfolding retired
+  retired-buffers-good position rows =
+      let x : Row = rowAt rows position in
+      pick-good (λ (w : Bool × Buffers). GoodBuffers s (w .1)) (eqb (s .mode) 1)
+      (pick-good (λ (w : Bool × Buffers). GoodBuffers s (w .1)) (eqb (x .kind) writeKind)
+      (retired-write-good x (newestWrite s position (x .address) rows))
+      g)
+      g
+
+pub retired-good : (s : Setup) (position : ℕ) (x : Lent) → Good s x → Good s (withBuffers (retired s position (x .rows) (x .buffers) .1) x)
+retired-good s position x g =
+    with-buffers-good s x (retired s position (x .rows) (x .buffers) .1) g
+    (retired-buffers-good s (g .ranges) (x .buffers) (good-buffers s x g) position (x .rows))
+
+-- the same in the order of the code: q' is what retirement left
+pub retired-at-good : (s : Setup) (position : ℕ) (memory rows : List ℕ) {there : Bool} {q q' : Buffers}
+    → Good s (record { memory = memory; rows = rows; buffers = q })
+    → (there, q') ≡ retired s position rows q
+    → Good s (record { memory = memory; rows = rows; buffers = q' })
+retired-at-good s position memory rows {q = q} g e =
+    subst (λ (w : Bool × Buffers). Good s (record { memory = memory; rows = rows; buffers = w .1 })) (sym e)
+    (retired-good s position (record { memory = memory; rows = rows; buffers = q }) g)
+
+------------------------------------------------------------------------
+-- The rows that arrive are in range
+
+pub empty-row-ok : (n c : ℕ) → rowOk n c emptyRow ≡ true
+empty-row-ok n c = refl
+
+module _ (n c a : ℕ) (h : a < n) where
+  pub write-row-ok : (w : ℕ) → rowOk n c (rowWith writeKind a w 0) ≡ true
+  write-row-ok w = row-ok n c (rowWith writeKind a w 0) (omega arith) (λ e. h) (λ e. absurd (omega arith))
+
+  pub read-row-ok : (w : ℕ) → rowOk n c (rowWith readKind a w 0) ≡ true
+  read-row-ok w = row-ok n c (rowWith readKind a w 0) (omega arith) (λ e. h) (λ e. absurd (omega arith))
+
+  pub waiting-row-ok : (link : ℕ) → link < c → rowOk n c (rowWith waitingKind a 0 link) ≡ true
+  waiting-row-ok link l = row-ok n c (rowWith waitingKind a 0 link) (omega arith) (λ e. h) (λ e. l)
+
+pub joined-ok : (n c : ℕ) (a : Address) (r : Row) → a .0 < n → rowOk n c r ≡ true → rowOk n c (joined a r) ≡ true
+joined-ok n c a r h ok =
+    pick-either (λ (x : Row). rowOk n c x ≡ true) (eqb (r .kind) waitingKind)
+    (λ t. waiting-row-ok n c (a .0) h (r .link) (row-link n c r ok (eqb-true (r .kind) waitingKind t)))
+    (λ t. read-row-ok n c (a .0) h (r .word))
+
+------------------------------------------------------------------------
+-- Arrival
+
+-- what an arrival leaves is good
+abbrev pub Kept : Setup → Arrived → Type 0
+Kept s w = GoodRows s (w .1 .0) × GoodBuffers s (w .1 .1)
+
+module _ (s : Setup) (r : Ranges s) (position : ℕ) (h : position < s .c) (rows : List ℕ) (gr : GoodRows s rows) (q : Buffers) (gq : GoodBuffers s q) where
+  seated-good : (x : Row) (w : Bool × Buffers) → rowOk (wordsOf s) (s .c) x ≡ true → GoodBuffers s (w .1)
+      → Kept s (seated position x rows w)
+  seated-good x w ok gw = (
+    put-row-good s rows gr position (pick (w .0) x emptyRow)
+        (pick-good (λ (y : Row). rowOk (wordsOf s) (s .c) y ≡ true) (w .0) ok (empty-row-ok (wordsOf s) (s .c))),
+    gw,
+  )
+
+  read-placed-good : (a : Address) → a .0 < wordsOf s → Kept s (readPlaced s position a rows q)
+  read-placed-good a l =
+      seated-good (rowWith waitingKind (a .0) 0 position) (placed s (readOf s position a) q)
+      (waiting-row-ok (wordsOf s) (s .c) (a .0) l position h)
+      (placed-good s (readOf s position a) q gq (read-entry-ok s r a position h))
+
+  read-merged-good : (a : Address) → a .0 < wordsOf s → (f : Found) → ((i : ℕ) → f ≡ At i → i < s .c)
+      → Kept s (readMerged s position a f rows q)
+  read-merged-good a l (At i) m =
+      let ok = joined-ok (wordsOf s) (s .c) a (rowAt rows i) l (gr .ok i (m i refl)) in
+      (put-row-good s rows gr position (joined a (rowAt rows i)) ok, gq)
+  read-merged-good a l Nothing m = read-placed-good a l
+
+  pub arrived-parts-good : (op : Operation) → addressOk s op ≡ true → Kept s (arrived s position op rows q)
+  unfolding arrived
+  arrived-parts-good Idle t = (put-row-good s rows gr position emptyRow (empty-row-ok (wordsOf s) (s .c)), gq)
+  arrived-parts-good (Read a) t =
+      let l : a .0 < wordsOf s = ltb-true (a .0) (wordsOf s) t in
+      pick-good (Kept s) (eqb (s .mode) 1)
+      (read-merged-good a l (newestLive s position a rows) (λ i e. scan-below (isOf a) (s .c) rows (s .c - 1) position h e))
+      (read-placed-good a l)
+  arrived-parts-good (Write a w) t =
+      let ok = write-row-ok (wordsOf s) (s .c) (a .0) (ltb-true (a .0) (wordsOf s) t) w in
+      pick-good (Kept s) (eqb (s .mode) 1)
+      (put-row-good s rows gr position (rowWith writeKind (a .0) w 0) ok, gq)
+      (seated-good (rowWith writeKind (a .0) w 0) (placed s (writeOf s a w) q) ok
+      (placed-good s (writeOf s a w) q gq (write-entry-ok s r a w)))
+
+-- the lent slices after it
+abbrev pub withArrived : Arrived → Lent → Lent
+withArrived w x = record { memory = x .memory; rows = w .1 .0; buffers = w .1 .1 }
+
+pub arrived-good : (s : Setup) (position : ℕ) (op : Operation) (x : Lent) → Good s x → position < s .c → addressOk s op ≡ true
+    → Good s (withArrived (arrived s position op (x .rows) (x .buffers)) x)
+arrived-good s position op x g h t =
+    let w = arrived-parts-good s (g .ranges) position h (x .rows) (good-rows s x g) (x .buffers) (good-buffers s x g) op t in
+    good-parts s (withArrived (arrived s position op (x .rows) (x .buffers)) x) (g .ranges) (g .memory-long) (w .0) (w .1)

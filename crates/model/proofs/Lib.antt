@@ -1,0 +1,11 @@
+pub mod Tests
+pub mod Four
+pub mod Rings
+pub mod Range
+pub mod Rows
+pub mod Buffers
+pub mod Good
+pub mod Service
+pub mod Arrival
+pub mod Ready
+pub mod Calls

@@ -1,0 +1,85 @@
+-- Laws on tests: joined tests, a choice by a test, and a test of every number below a bound. Assumes nothing.
+use Prim.Native.Nat.{ℕ, zero, suc, _≤_, _<_}
+use native.Mathlib.Nat.{not-suc-le-zero}
+use native.Mathlib.Omega.{arith}
+use mathlib.Core.Path.{_≡_, refl, sym, _∙_}
+use mathlib.Core.Logic.{_⊎_, inl, inr}
+use mathlib.Core.Bool.{Bool, true, false, not, _&&_, _||_}
+use lib.Dec.{ltb, eqb}
+use borrow.Author.Tests.{ltb-true, ltb-false, eqb-true, eqb-false}
+use borrow.Author.Count.{below-more}
+use Rattle.setup.specs.Choice.{pick}
+use Rattle.setup.proofs.Ranges.{and-l, and-r}
+
+------------------------------------------------------------------------
+-- Joined tests
+
+pub and-true : (x y : Bool) → x ≡ true → y ≡ true → x && y ≡ true
+and-true x y p q = rw (p, q)
+
+pub or-true : (x y : Bool) → (x ≡ false → y ≡ true) → x || y ≡ true
+or-true true y h = refl
+or-true false y h = h refl
+
+pub or-r : (x y : Bool) → x || y ≡ true → x ≡ false → y ≡ true
+or-r true y h e = cc
+or-r false y h e = h
+
+-- `not x || y`: y where x holds
+pub not-or-true : (x y : Bool) → (x ≡ true → y ≡ true) → not x || y ≡ true
+not-or-true true y h = h refl
+not-or-true false y h = refl
+
+pub not-or-r : (x y : Bool) → not x || y ≡ true → x ≡ true → y ≡ true
+not-or-r true y h e = h
+not-or-r false y h e = cc
+
+------------------------------------------------------------------------
+-- A choice by a test
+
+-- what holds of both holds of the one that is picked
+pub pick-good : {A : Type 0} (P : A → Type 0) (b : Bool) {x y : A} → P x → P y → P (pick b x y)
+pick-good P true p q = p
+pick-good P false p q = q
+
+-- the same, where each side knows what the test answered
+pub pick-either : {A : Type 0} (P : A → Type 0) (b : Bool) {x y : A} → (b ≡ true → P x) → (b ≡ false → P y) → P (pick b x y)
+pick-either P true p q = p refl
+pick-either P false p q = q refl
+
+-- f of what is picked is the pick of what f makes of each
+pub pick-map : {A B : Type 0} (f : A → B) (b : Bool) (x y : A) → f (pick b x y) ≡ pick b (f x) (f y)
+pick-map f true x y = refl
+pick-map f false x y = refl
+
+------------------------------------------------------------------------
+-- Two numbers compared
+
+pub below-or-not : (a b : ℕ) → (a < b) ⊎ (b ≤ a)
+below-or-not a b = go (ltb a b) refl
+  where
+    go : (t : Bool) → ltb a b ≡ t → (a < b) ⊎ (b ≤ a)
+    go true e = inl (ltb-true a b e)
+    go false e = inr (ltb-false a b e)
+
+pub same-or-not : (a b : ℕ) → (a ≡ b) ⊎ (a ≡ b → ⊥)
+same-or-not a b = go (eqb a b) refl
+  where
+    go : (t : Bool) → eqb a b ≡ t → (a ≡ b) ⊎ (a ≡ b → ⊥)
+    go true e = inl (eqb-true a b e)
+    go false e = inr (eqb-false a b e)
+
+------------------------------------------------------------------------
+-- The test g of the numbers below a bound, by the test f of each
+
+module _ (f g : ℕ → Bool) (none : g 0 ≡ true) (more : (i : ℕ) → g (suc i) ≡ g i && f i) where
+  pub each-below : (n : ℕ) → g n ≡ true → (i : ℕ) → i < n → f i ≡ true
+  each-below zero h i l = absurd (not-suc-le-zero l)
+  each-below (suc n) h i l =
+      let p : g n && f n ≡ true = sym (more n) ∙ h in
+      below-more (λ (j : ℕ). f j ≡ true) n (each-below n (and-l (g n) (f n) p)) (and-r (g n) (f n) p) i (omega arith)
+
+  pub all-below : (n : ℕ) → ((i : ℕ) → i < n → f i ≡ true) → g n ≡ true
+  all-below zero h = none
+  all-below (suc n) h =
+      more n ∙ and-true (g n) (f n) (all-below n (λ i l. h i (omega arith))) (h n (omega arith))
