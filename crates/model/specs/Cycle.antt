@@ -208,17 +208,28 @@ stoppedState t = record { stamp = t .stamp; turn = t .turn; position = t .positi
 abbrev pub cycled : State → ℕ → Delivery → State → Cycled
 cycled t answer d next = record { state = next; reply = record { answer = answer; delivery = d; stamp = t .stamp } }
 
+-- what a cycle returns, and the rows and buffers that it leaves
+abbrev pub Left : Type 0
+Left = Cycled × (List ℕ × Buffers)
+
 -- dropped or not, the cycle passes
-abbrev pub finished : Setup → State → Delivery → List ℕ → Arrived → Cycled × Lent
-finished s t d memory (taken, (rows, q)) =
-    (cycled t (pick taken done dropped) d (nextState s t), record { memory = memory; rows = rows; buffers = q })
+abbrev pub finished : Setup → State → Delivery → Arrived → Left
+finished s t d (taken, w) = (cycled t (pick taken done dropped) d (nextState s t), w)
 
 -- a retiring write that finds its buffer full stops the machine, and arrival is not looked at
-abbrev pub going : Setup → State → Operation → Delivery → Lent → Bool × Buffers → Cycled × Lent
-going s t op d x (true, q) = finished s t d (x .memory) (arrived s (t .position) op (x .rows) q)
-going s t op d x (false, q) = (cycled t stopping d (stoppedState t), x)
+abbrev pub going : Setup → State → Operation → Delivery → List ℕ → Bool × Buffers → Left
+going s t op d rows (true, q) = finished s t d (arrived s (t .position) op rows q)
+going s t op d rows (false, q) = (cycled t stopping d (stoppedState t), (rows, q))
+
+-- delivery, retirement, arrival
+unfoldable pub afterService : Setup → State → Operation → List ℕ → Buffers → Left
+afterService s t op rows q =
+    going s t op (delivered s (t .position) rows) rows (retired s (t .position) rows q)
+
+abbrev pub withMemory : List ℕ → Left → Cycled × Lent
+withMemory memory (r, (rows, q)) = (r, record { memory = memory; rows = rows; buffers = q })
 
 unfoldable pub passed : Setup → State → Operation → Lent → Cycled × Lent
 passed s t op x =
     let y = served s (t .turn) x in
-    going s t op (delivered s (t .position) (y .rows)) y (retired s (t .position) (y .rows) (y .buffers))
+    withMemory (y .memory) (afterService s t op (y .rows) (y .buffers))
