@@ -15,19 +15,18 @@ pub struct Run {
     pub operations: Vec<u8>,
 }
 
-const PERCENT_REFUSED: usize = 8;
-const PERCENT_TOO_LARGE: usize = 5;
+/// One seed in so many has a setup with which the program ends at once.
+const ENDING_EVERY: u64 = 8;
+
 const PERCENT_DAMAGED: usize = 20;
 
 pub fn run(seed: u64) -> Run {
     let mut random = Random::new(seed);
-    let kind = random.below(100);
-    if kind < PERCENT_REFUSED {
-        let setup = setups::refused(&mut random);
-        unread(setup, &mut random)
-    } else if kind < PERCENT_REFUSED + PERCENT_TOO_LARGE {
-        let setup = setups::too_large(&mut random);
-        unread(Some(write_setup(&setup)), &mut random)
+    if seed.is_multiple_of(ENDING_EVERY) {
+        unread(
+            setups::ending(seed / ENDING_EVERY, &mut random),
+            &mut random,
+        )
     } else {
         read_through(&mut random)
     }

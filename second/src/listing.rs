@@ -7,9 +7,10 @@ use crate::records::{read_operation, read_setup, OPERATION_LENGTH};
 use crate::setup::Configuration;
 use std::io::{self, Write};
 
-const ROOM_A: u32 = 12;
-const ROOM_C: usize = 1024;
-const ROOM_ENTRIES: usize = 1024;
+/// The room of `cyclerun`: the largest a, C and B·K that it holds.
+pub const ROOM_A: u32 = 12;
+pub const ROOM_C: usize = 1024;
+pub const ROOM_ENTRIES: usize = 1024;
 
 /// Writes the listing of a run over the file `setup`, if there is one, and the operations of standard input.
 pub fn write_listing(

@@ -3,7 +3,7 @@
 use second::compare::compare;
 use second::listing::write_listing;
 use second::{files, generate, text};
-use std::ffi::{OsStr, OsString};
+use std::ffi::OsString;
 use std::io::{self, Read, Write};
 use std::path::Path;
 use std::process::ExitCode;
@@ -105,7 +105,7 @@ fn number(word: &str) -> Result<u64, Ending> {
 fn input() -> Result<Vec<u8>, String> {
     let mut bytes = Vec::new();
     let read = io::stdin().lock().read_to_end(&mut bytes);
-    read.map_err(|error| files::at(Path::new("standard input"), error))?;
+    read.map_err(|error| format!("standard input: {error}"))?;
     Ok(bytes)
 }
 
@@ -122,5 +122,5 @@ fn print(bytes: &[u8]) -> Result<(), Ending> {
 }
 
 fn output_error(error: io::Error) -> Ending {
-    Ending::Failed(files::at(Path::new(OsStr::new("standard output")), error))
+    Ending::Failed(format!("standard output: {error}"))
 }

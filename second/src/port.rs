@@ -89,11 +89,11 @@ impl Port {
     pub fn memory_word(&self, cell: Cell) -> Word {
         let bank = &self.banks[self.configuration.bank(cell)];
         let stored = bank.placed[..bank.served].iter().rev();
-        let mut words = stored.filter_map(|&entry| match entry {
+        let newest = stored.copied().find_map(|entry| match entry {
             Entry::Write(at, word) if at == cell => Some(word),
             _ => None,
         });
-        words.next().unwrap_or(STARTING_WORD)
+        newest.unwrap_or(STARTING_WORD)
     }
 
     fn is_beyond_memory(&self, operation: Operation) -> bool {

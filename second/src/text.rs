@@ -4,7 +4,6 @@ use crate::history::Operation;
 use crate::map::Address;
 use crate::records::{read_operation, read_setup, write_operation, write_setup, OPERATION_LENGTH};
 use crate::setup::Setup;
-use std::fmt::Write;
 
 /// The numbers of a setup in the order of its record, and the largest that its bytes hold.
 const NUMBERS: [(&str, u32); 9] = [
@@ -119,15 +118,18 @@ pub fn unpack_setup(record: &[u8]) -> Result<String, String> {
 pub fn unpack_operations(records: &[u8]) -> (String, Result<(), String>) {
     let mut text = String::new();
     for (number, record) in records.chunks(OPERATION_LENGTH).enumerate() {
-        let written = match read_operation(record) {
-            Some(Operation::Idle) => writeln!(text, "idle"),
-            Some(Operation::Read(Address(address))) => writeln!(text, "read {address}"),
-            Some(Operation::Write(Address(address), word)) => {
-                writeln!(text, "write {address} {word}")
-            }
+        match read_operation(record) {
+            Some(operation) => text += &line_of(operation),
             None => return (text, Err(format!("record {number}: not an operation"))),
-        };
-        written.expect("a string takes every line");
+        }
     }
     (text, Ok(()))
+}
+
+fn line_of(operation: Operation) -> String {
+    match operation {
+        Operation::Idle => "idle\n".to_string(),
+        Operation::Read(Address(address)) => format!("read {address}\n"),
+        Operation::Write(Address(address), word) => format!("write {address} {word}\n"),
+    }
 }

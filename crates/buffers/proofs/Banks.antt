@@ -1,1 +1,128 @@
--- What the functions on a bank. Assumes nothing.
+-- The functions on a bank's buffer: what they ask follows from what their callers know, and what they leave. Assumes nothing.
+use Prim.Native.Nat.{ℕ, _+_, _-_, _*_, _≤_, _<_}
+use mathlib.Core.Bool.{Bool, true, false}
+use mathlib.Core.List.{List}
+use mathlib.Core.Path.{_≡_, ap, sym, _∙_}
+use native.Mathlib.Omega.{arith}
+use lib.Dec.{eqb}
+use lib.ListN.{length}
+use borrow.Author.Tests.{eqb-true, eqb-false}
+use borrow.Rule.Slice.PartMut.{midOf, putMid}
+use Rattle.setup.specs.Setup.{wordsOf, banksOf}
+use Rattle.setup.specs.declared.Setup.{Setup}
+use Rattle.map.specs.Map.{bankOf}
+use Rattle.model.proofs.Buffers.{bank-below, placed-full, placed-room}
+use Rattle.model.proofs.Range.{head-oldest, head-count}
+use Rattle.model.proofs.Rings.{onward-below, part-within}
+use Rattle.model.specs.Cycle.{oldestEntry, placedAt, placed}
+use Rattle.model.specs.Lent.{Buffers, buffersIn, lent, entryWith, entryAt, putEntry, oldestOf, countOf, putHead, onward}
+use Rattle.model.specs.Range.{Good, headOk, bufferOk, entriesOk}
+use Rattle.model.specs.declared.Entry.{Entry}
+use Rattle.buffers.specs.Bank.{Room, Head, Buffer}
+use Rattle.buffers.specs.Part.{partOk}
+use Rattle.buffers.proofs.Parts.{four-part, put-part}
+use Rattle.buffers.proofs.Waiting.{part-entries}
+
+------------------------------------------------------------------------
+-- What they ask
+
+module _ (s : Setup) (entries heads : List ℕ) (b : ℕ) where
+  pub room-buffer : Room s (buffersIn entries heads) → b < banksOf s → headOk s heads b ≡ true → Buffer s b (buffersIn entries heads)
+  room-buffer r l h =
+      record {
+        head =
+            record {
+              sizes = r .sizes;
+              head-within = omega arith;
+              oldest-below = head-oldest s heads b h;
+              count-most = head-count s heads b h;
+            };
+        part-within = omega (arith, part-within b (banksOf s) (s .k) l);
+      }
+
+  -- t is what the test of the head answered
+  module _ (t : Bool) (e : t ≡ headOk s heads b) where
+    pub tested-buffer : Room s (buffersIn entries heads) → b < banksOf s → t ≡ true → Buffer s b (buffersIn entries heads)
+    tested-buffer r l h = room-buffer r l (sym e ∙ h)
+
+    pub buffer-good : (u : Bool) → t ≡ true → u ≡ entriesOk s (buffersIn entries heads) b (countOf heads b) → u ≡ bufferOk s (buffersIn entries heads) b
+    buffer-good u h w = rw (sym e ∙ h) w
+
+    pub buffer-bad : t ≡ false → false ≡ bufferOk s (buffersIn entries heads) b
+    buffer-bad h = rw (sym e ∙ h)
+
+module _ (s : Setup) (memory rows entries heads : List ℕ) (g : Good s (lent memory rows entries heads)) where
+  pub good-room : Room s (buffersIn entries heads)
+  good-room = record { sizes = g .ranges .sizes; entries-long = g .entries-long; heads-long = g .heads-long }
+
+  pub good-buffer : (b : ℕ) → b < banksOf s → Buffer s b (buffersIn entries heads)
+  good-buffer b l = room-buffer s entries heads b good-room l (g .heads-ok b l)
+
+  pub good-head : (b : ℕ) → b < banksOf s → Head s b heads
+  good-head b l = good-buffer b l .head
+
+  -- every entry's bank is one of the B
+  pub good-entry-buffer : (e : Entry) → Buffer s (bankOf s (e .cell)) (buffersIn entries heads)
+  good-entry-buffer e = good-buffer (bankOf s (e .cell)) (bank-below s e (buffersIn entries heads))
+
+------------------------------------------------------------------------
+-- What they leave
+
+-- the numbers of bank b's part, as the code counts them
+abbrev pub size : ℕ → ℕ → ℕ
+size b k = 4 * (b * k) + 4 * k - 4 * (b * k)
+
+-- place j of bank b's part
+module _ (entries : List ℕ) (b k j : ℕ) (below : j < k) where
+  -- the entry read in the part is that of the whole room
+  pub bank-entry : entryAt (midOf (4 * (b * k)) (size b k) entries) j ≡ entryAt entries (b * k + j)
+  bank-entry = four-part (b * k) (size b k) entries j (omega arith) entryWith
+
+  -- the entry put in the part is put in the whole room
+  pub bank-put : (e : Entry) → 4 * (b * k) + 4 * k ≤ length entries
+      → putMid (4 * (b * k)) (size b k) entries (putEntry (midOf (4 * (b * k)) (size b k) entries) j e) ≡ putEntry entries (b * k + j) e
+  bank-put e fits = put-part (b * k) (size b k) entries j (omega arith) (e .kind) (e .row) (e .cell .0) (e .word) (omega arith)
+
+-- oldest is the oldest place of bank b's head
+module _ (s : Setup) (b : ℕ) (entries heads : List ℕ) (asked : Buffer s b (buffersIn entries heads)) (oldest : ℕ) (o : oldest ≡ oldestOf heads b) where
+  pub oldest-left : (e : Entry) → e ≡ entryAt (midOf (4 * (b * s .k)) (size b (s .k)) entries) oldest → e ≡ oldestEntry s b (buffersIn entries heads)
+  oldest-left e r = r ∙ rw o (bank-entry entries b (s .k) (oldestOf heads b) (asked .head .oldest-below))
+
+  -- t is what the test of the waiting entries in the part answered
+  pub waiting-left : (count words : ℕ) (t : Bool) → count ≡ countOf heads b → words ≡ wordsOf s
+      → t ≡ partOk words (s .c) (s .k) oldest (midOf (4 * (b * s .k)) (size b (s .k)) entries) count
+      → t ≡ entriesOk s (buffersIn entries heads) b (countOf heads b)
+  waiting-left count words t n w r =
+      r ∙ rw (o, n, w) (part-entries s entries heads b (size b (s .k)) (omega arith) (asked .head .oldest-below) (countOf heads b) (asked .head .count-most))
+
+  -- the part and the heads once the entry is placed
+  pub placed-left : (e : Entry) (count : ℕ) (part heads′ : List ℕ) → count ≡ countOf heads b → countOf heads b < s .k
+      → part ≡ putEntry (midOf (4 * (b * s .k)) (size b (s .k)) entries) (onward (s .k) oldest count) e
+      → heads′ ≡ putHead heads b oldest (count + 1)
+      → buffersIn (putMid (4 * (b * s .k)) (size b (s .k)) entries part) heads′ ≡ placedAt s b e (buffersIn entries heads)
+  placed-left e count part heads′ n l p h =
+      let j : ℕ = onward (s .k) (oldestOf heads b) (countOf heads b) in
+      let i : j < s .k = onward-below (s .k) (oldestOf heads b) (countOf heads b) (asked .head .oldest-below) (asked .head .count-most) in
+      rw (p, h, o, n)
+      (ap (λ (x : List ℕ). buffersIn x (putHead heads b (oldestOf heads b) (countOf heads b + 1))) (bank-put entries b (s .k) j i e (asked .part-within)))
+
+-- b is the bank of the entry's cell, count its buffer's count, and t says whether that is K
+module _ (s : Setup) (e : Entry) (entries heads : List ℕ) (b : ℕ) (a : b ≡ bankOf s (e .cell)) where
+  pub place-buffer : Buffer s (bankOf s (e .cell)) (buffersIn entries heads) → Buffer s b (buffersIn entries heads)
+  place-buffer r = rw a r
+
+  module _ (count : ℕ) (n : count ≡ countOf heads b) where
+    pub place-most : Buffer s (bankOf s (e .cell)) (buffersIn entries heads) → count ≤ s .k
+    place-most r = let x : Buffer s b (buffersIn entries heads) = place-buffer r in omega arith
+
+    module _ (t : Bool) (f : t ≡ eqb count (s .k)) where
+      pub place-room : Buffer s (bankOf s (e .cell)) (buffersIn entries heads) → t ≡ false → countOf heads b < s .k
+      place-room r h = let l : count ≤ s .k = place-most r in omega (arith, eqb-false count (s .k) (sym f ∙ h))
+
+      pub place-full : t ≡ true → (false, buffersIn entries heads) ≡ placed s e (buffersIn entries heads)
+      place-full h = sym (placed-full s e (buffersIn entries heads) (rw (← a, ← n) (eqb-true count (s .k) (sym f ∙ h))))
+
+      pub place-free : (q : Buffers) → t ≡ false → q ≡ placedAt s b e (buffersIn entries heads) → (true, q) ≡ placed s e (buffersIn entries heads)
+      place-free q h r =
+          ap (λ (x : Buffers). (true, x)) (r ∙ ap (λ (i : ℕ). placedAt s i e (buffersIn entries heads)) a)
+          ∙ sym (placed-room s e (buffersIn entries heads) (rw (← a, ← n) (eqb-false count (s .k) (sym f ∙ h))))

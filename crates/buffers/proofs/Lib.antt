@@ -1,4 +1,3 @@
-pub mod Four
-pub mod Heads
-pub mod InRange
+pub mod Parts
+pub mod Waiting
 pub mod Banks

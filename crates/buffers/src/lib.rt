@@ -1,6 +1,7 @@
 // The request buffers: each bank's buffer is handled through its own part of the lent entry room.
 ghost use mathlib.Core.Path.{_≡_};
 ghost use Prim.Native.Nat.{_+_, _*_, _≤_, _<_};
+ghost use lib.Dec.{eqb};
 ghost use lib.ListN.{length};
 ghost use Rattle.setup.specs.Setup.{banksOf};
 ghost use Rattle.map.specs.Map.{bankOf};
@@ -15,7 +16,7 @@ use places::onward;
 use places::put_four;
 use setup::Setup;
 
-// One buffer: `part` has its k places, used in a ring.
+// One buffer: `part` has its k places, and the place after the last is the first.
 
 // The entry at place i.
 fn entry_at(part: &[u32], i: usize) -> Entry
@@ -32,20 +33,21 @@ fn entry_at(part: &[u32], i: usize) -> Entry
 }
 
 // The entry that has waited longest.
-fn oldest_of(part: &[u32], k: usize, oldest: usize) -> Entry
+fn oldest_of(part: &[u32], k: usize, oldest: u32) -> Entry
     requires { ⌜ (length (now part) ≡ 4 * k) × (oldest < k) ⌝ }
     ensures { λ r. ⌜ r ≡ entryAt (now (part .entry)) oldest ⌝ }
 {
-    entry_at(part, oldest)
+    entry_at(part, oldest as usize)
 }
 
-// First in, first out: the entry goes behind the last of `count`.
-fn push(part: &mut [u32], k: usize, oldest: usize, count: usize, e: Entry)
+// First in, first out: the entry goes behind the last of the `count` that wait.
+fn push(part: &mut [u32], k: usize, oldest: u32, count: u32, e: Entry)
     requires { ⌜ (length (now part) ≡ 4 * k) × (oldest < k) × (count < k) × (k ≤ 128) ⌝ }
     ensures { λ _. ⌜ now (part .exit) ≡ putEntry (now (part .entry)) (onward k oldest count) e ⌝ }
 {
+    let at = onward(k, oldest as usize, count as usize);
     let cell = e.cell;
-    put_four(part, onward(k, oldest, count), e.kind, e.row, cell.0, e.word);
+    put_four(part, at, e.kind, e.row, cell.0, e.word);
 }
 
 // A kind that is coded, a cell below n, and of a read entry a row below c.
@@ -56,15 +58,16 @@ fn entry_ok(n: u32, c: u32, e: Entry) -> bool
     (e.kind <= Entry::WRITE) & (cell.0 < n) & ((e.kind != Entry::READ) | (e.row < c))
 }
 
-// The `count` waiting entries, from the oldest on; without an early exit.
-fn part_ok(part: &[u32], k: usize, oldest: usize, count: usize, n: u32, c: u32) -> bool
+// The `count` waiting entries, from the oldest on. There is no early exit: nearly every call passes.
+fn part_ok(part: &[u32], k: usize, oldest: u32, count: u32, n: u32, c: u32) -> bool
     requires { ⌜ (length (now part) ≡ 4 * k) × (oldest < k) × (count ≤ k) × (k ≤ 128) ⌝ }
     ensures { λ r. ⌜ r ≡ partOk n c k oldest (now (part .entry)) count ⌝ }
 {
     let mut ok = true;
-    let mut i: usize = 0;
+    let mut i: u32 = 0;
     while i < count {
-        let e = entry_at(part, onward(k, oldest, i));
+        let at = onward(k, oldest as usize, i as usize);
+        let e = entry_at(part, at);
         ok = ok & entry_ok(n, c, e);
         i += 1;
     }
@@ -73,6 +76,7 @@ fn part_ok(part: &[u32], k: usize, oldest: usize, count: usize, n: u32, c: u32) 
 
 // The heads: two numbers a bank, the oldest place and the count.
 
+// The place of bank b's oldest entry.
 fn oldest_at(heads: &[u32], b: usize) -> u32
     requires { ⌜ 2 * b + 2 ≤ length (now heads) ⌝ }
     ensures { λ r. ⌜ r ≡ oldestOf (now (heads .entry)) b ⌝ }
@@ -92,8 +96,9 @@ fn put_head(heads: &mut [u32], b: usize, oldest: u32, count: u32)
     requires { ⌜ 2 * b + 2 ≤ length (now heads) ⌝ }
     ensures { λ _. ⌜ now (heads .exit) ≡ putHead (now (heads .entry)) b oldest count ⌝ }
 {
-    heads[2 * b] = oldest;
-    heads[2 * b + 1] = count;
+    let at = 2 * b;
+    heads[at] = oldest;
+    heads[at + 1] = count;
 }
 
 // The banks: bank b's part is cut out of the middle of the entry room.
@@ -104,19 +109,28 @@ pub fn oldest_entry(s: Setup, b: usize, entries: &[u32], heads: &[u32]) -> Entry
     ensures { λ r. ⌜ r ≡ oldestEntry s b (buffersIn (now (entries .entry)) (now (heads .entry))) ⌝ }
 {
     let k = s.k as usize;
-    let from = 4 * (b * k);
+    let from = 4 * (b * k); // the part to read from
     let to = from + 4 * k;
-    oldest_of(&entries[from..to], k, oldest_at(heads, b) as usize)
+    oldest_of(&entries[from..to], k, oldest_at(heads, b))
 }
 
-// Takes the oldest entry of bank b's buffer away.
+// Bank b's oldest entry is gone: the next is the oldest, and one less waits.
 pub fn pop(s: Setup, b: usize, heads: &mut [u32])
     requires { ⌜ Head s b (now heads) × (0 < countOf (now heads) b) ⌝ }
     ensures { λ _. ⌜ now (heads .exit) ≡ popped s b (now (heads .entry)) ⌝ }
 {
-    let oldest = onward(s.k as usize, oldest_at(heads, b) as usize, 1);
+    let k = s.k as usize;
+    let oldest = onward(k, oldest_at(heads, b) as usize, 1) as u32;
     let count = count_at(heads, b);
-    put_head(heads, b, oldest as u32, count - 1);
+    put_head(heads, b, oldest, count - 1);
+}
+
+// A buffer is full when it holds K.
+fn full(s: Setup, count: u32) -> bool
+    requires { ⌜ count ≤ s .k ⌝ }
+    ensures { λ r. ⌜ r ≡ eqb count (s .k) ⌝ }
+{
+    count == (s.k as u32)
 }
 
 // Places an entry in bank b's buffer, which is not full.
@@ -124,12 +138,12 @@ fn place_at(s: Setup, b: usize, e: Entry, entries: &mut [u32], heads: &mut [u32]
     requires { ⌜ Buffer s b (buffersIn (now entries) (now heads)) × (countOf (now heads) b < s .k) ⌝ }
     ensures { λ _. ⌜ buffersIn (now (entries .exit)) (now (heads .exit)) ≡ placedAt s b e (buffersIn (now (entries .entry)) (now (heads .entry))) ⌝ }
 {
+    let k = s.k as usize;
+    let from = 4 * (b * k); // the part to write to
+    let to = from + 4 * k;
     let oldest = oldest_at(heads, b);
     let count = count_at(heads, b);
-    let k = s.k as usize;
-    let from = 4 * (b * k);
-    let to = from + 4 * k;
-    push(&mut entries[from..to], k, oldest as usize, count as usize, e);
+    push(&mut entries[from..to], k, oldest, count, e);
     put_head(heads, b, oldest, count + 1);
 }
 
@@ -141,7 +155,7 @@ pub fn place(s: Setup, e: Entry, entries: &mut [u32], heads: &mut [u32]) -> bool
     let cell = e.cell;
     let b = cell.bank(s) as usize;
     let count = count_at(heads, b);
-    if count == (s.k as u32) {
+    if full(s, count) {
         return false;
     }
     place_at(s, b, e, entries, heads);
@@ -165,10 +179,10 @@ fn waiting_ok(s: Setup, b: usize, entries: &[u32], heads: &[u32]) -> bool
     ensures { λ r. ⌜ r ≡ entriesOk s (buffersIn (now (entries .entry)) (now (heads .entry))) b (countOf (now (heads .entry)) b) ⌝ }
 {
     let k = s.k as usize;
-    let from = 4 * (b * k);
+    let from = 4 * (b * k); // the part to look through
     let to = from + 4 * k;
-    let oldest = oldest_at(heads, b) as usize;
-    let count = count_at(heads, b) as usize;
+    let oldest = oldest_at(heads, b);
+    let count = count_at(heads, b);
     part_ok(&entries[from..to], k, oldest, count, s.words(), s.c as u32)
 }
 

@@ -5,7 +5,7 @@ ghost use lib.ListN.{length};
 ghost use Rattle.setup.specs.Choice.{pick};
 ghost use Rattle.setup.specs.Setup.{Ranges, banksOf};
 ghost use Rattle.model.specs.Lent.{Lent, lent, buffersIn, emptyRow};
-ghost use Rattle.model.specs.Cycle.{carried, servedBank, servedIf, served, delivered, leaves, writeOf, readOf, retired, joined, readPlaced, readMerged, readArrived, writeArrived, newestLive, arrived, nextState, stoppedState, cycled, passed};
+ghost use Rattle.model.specs.Cycle.{carried, servedBank, servedIf, served, delivered, leaves, writeOf, readOf, newestLive, newestWrite, retiredWrite, retired, joined, readPlaced, readMerged, readArrived, writeArrived, arrived, nextState, stoppedState, cycled, finished, afterService, passed};
 ghost use Rattle.answers.specs.Answers.{done, dropped};
 ghost use Rattle.model.specs.Range.{Good, Ready};
 ghost use Rattle.controller.specs.Known.{Fit};
@@ -142,19 +142,38 @@ fn read_entry(s: Setup, position: u32, a: Address) -> Entry
     }
 }
 
+// A write that retires is placed, if no newer live row is a write to its address. False where its buffer is full.
+fn retire_write(
+    s: Setup,
+    position: usize,
+    r: Row,
+    rows: &[u32],
+    entries: &mut [u32],
+    heads: &mut [u32],
+) -> bool
+    requires { ⌜ Fit s (now rows) (now entries) (now heads) × (position < s .c) ⌝ }
+    ensures { λ ok. ⌜ (ok, buffersIn (now (entries .exit)) (now (heads .exit))) ≡ retiredWrite s r (newestWrite s position (r .address) (now (rows .entry))) (buffersIn (now (entries .entry)) (now (heads .entry))) ⌝ }
+{
+    let a = r.address;
+    let Found::At(_) = table::newest_write(rows, s.c as usize, position, a) else {
+        return buffers::place(s, write_entry(s, a, r.word), entries, heads);
+    };
+    true
+}
+
 // Gives up the row filled C cycles ago. False where its write needs a place in a full buffer.
 fn retire(s: Setup, position: usize, rows: &[u32], entries: &mut [u32], heads: &mut [u32]) -> bool
     requires { ⌜ Fit s (now rows) (now entries) (now heads) × (position < s .c) ⌝ }
-    ensures { λ r. ⌜ (r, buffersIn (now (entries .exit)) (now (heads .exit))) ≡ retired s position (now (rows .entry)) (buffersIn (now (entries .entry)) (now (heads .entry))) ⌝ }
+    ensures { λ ok. ⌜ (ok, buffersIn (now (entries .exit)) (now (heads .exit))) ≡ retired s position (now (rows .entry)) (buffersIn (now (entries .entry)) (now (heads .entry))) ⌝ }
 {
-    let r = table::row_at(rows, position);
-    if (s.mode == 1) & (r.kind == Row::WRITE) {
-        let a = r.address;
-        let Found::At(_) = table::newest_write(rows, s.c as usize, position, a) else {
-            return buffers::place(s, write_entry(s, a, r.word), entries, heads);
-        };
+    if s.mode != Setup::MERGING {
+        return true;
     }
-    true
+    let r = table::row_at(rows, position);
+    if r.kind != Row::WRITE {
+        return true;
+    }
+    retire_write(s, position, r, rows, entries, heads)
 }
 
 // An empty row.
@@ -255,7 +274,7 @@ fn arrive_read(
     requires { ⌜ Fit s (now rows) (now entries) (now heads) × (position < s .c) ⌝ }
     ensures { λ r. ⌜ (r, (now (rows .exit), buffersIn (now (entries .exit)) (now (heads .exit)))) ≡ readArrived s position a (now (rows .entry)) (buffersIn (now (entries .entry)) (now (heads .entry))) ⌝ }
 {
-    if s.mode == 1 {
+    if s.mode == Setup::MERGING {
         return merge_read(s, position, a, rows, entries, heads);
     }
     place_read(s, position, a, rows, entries, heads)
@@ -280,7 +299,7 @@ fn arrive_write(
         word,
         link: 0,
     };
-    if s.mode == 1 {
+    if s.mode == Setup::MERGING {
         table::put_row(rows, position as usize, r);
         return true;
     }
@@ -361,6 +380,43 @@ fn cycled(t: State, answer: u32, delivery: Delivery, next: State) -> Cycled
     }
 }
 
+// A cycle whose retirement found its place: the operation arrives, and the cycle passes.
+fn finish(
+    s: Setup,
+    t: State,
+    op: Operation,
+    delivery: Delivery,
+    rows: &mut [u32],
+    entries: &mut [u32],
+    heads: &mut [u32],
+) -> Cycled
+    requires { ⌜ Fit s (now rows) (now entries) (now heads) × (t .turn < s .m) × (t .position < s .c) ⌝ }
+    ensures { λ r. ⌜ (r, (now (rows .exit), buffersIn (now (entries .exit)) (now (heads .exit)))) ≡ finished s t delivery (arrived s (t .position) op (now (rows .entry)) (buffersIn (now (entries .entry)) (now (heads .entry)))) ⌝ }
+{
+    let taken = arrive(s, t.position, op, rows, entries, heads);
+    cycled(t, answer_of(taken), delivery, next_state(s, t))
+}
+
+// Delivery, retirement and arrival.
+fn go_on(
+    s: Setup,
+    t: State,
+    op: Operation,
+    rows: &mut [u32],
+    entries: &mut [u32],
+    heads: &mut [u32],
+) -> Cycled
+    requires { ⌜ Fit s (now rows) (now entries) (now heads) × (t .turn < s .m) × (t .position < s .c) ⌝ }
+    ensures { λ r. ⌜ (r, (now (rows .exit), buffersIn (now (entries .exit)) (now (heads .exit)))) ≡ afterService s t op (now (rows .entry)) (buffersIn (now (entries .entry)) (now (heads .entry))) ⌝ }
+{
+    let position = t.position as usize;
+    let delivery = deliver(s, position, rows);
+    if retire(s, position, rows, entries, heads) {
+        return finish(s, t, op, delivery, rows, entries, heads);
+    }
+    cycled(t, answers::STOPPING, delivery, stopped_state(t))
+}
+
 // A cycle of a machine that nothing refuses.
 pub fn pass(
     s: Setup,
@@ -375,11 +431,5 @@ pub fn pass(
     ensures { λ r. ⌜ (r, lent (now (memory .exit)) (now (rows .exit)) (now (entries .exit)) (now (heads .exit))) ≡ passed s t op (lent (now (memory .entry)) (now (rows .entry)) (now (entries .entry)) (now (heads .entry))) ⌝ }
 {
     serve(s, t.turn, memory, rows, entries, heads);
-    let position = t.position as usize;
-    let delivery = deliver(s, position, rows);
-    if retire(s, position, rows, entries, heads) {
-        let taken = arrive(s, t.position, op, rows, entries, heads);
-        return cycled(t, answer_of(taken), delivery, next_state(s, t));
-    }
-    cycled(t, answers::STOPPING, delivery, stopped_state(t))
+    go_on(s, t, op, rows, entries, heads)
 }

@@ -1,9 +1,7 @@
--- The document's "Records", last paragraph: a line per record.
+-- The document's "Records", last paragraph: the text of a line per record, and the room that it is put into.
 use Prim.Native.Nat.{ℕ, zero, suc, _+_, _/_, _%_}
 use mathlib.Core.List.{List, [], _∷_, _++_}
-use lib.Dec.{ltb}
 use lib.ListN.{length, take, drop}
-use Rattle.setup.specs.Choice.{pick}
 use Rattle.port.specs.declared.Delivery.{Delivery}
 
 ------------------------------------------------------------------------
@@ -12,37 +10,54 @@ use Rattle.port.specs.declared.Delivery.{Delivery}
 abbrev pub ten : ℕ
 ten = 10
 
--- the last digit of n as a byte; 48 is `0`
+-- `0`
+abbrev pub nought : ℕ
+nought = 48
+
+-- the last digit of n as a byte
 abbrev pub digit : ℕ → ℕ
-digit n = 48 + n % ten
+digit n = nought + n % ten
 
--- n's digits, where n is at most `steps`: a step takes one digit off
-unfoldable pub decimalIn : (steps n : ℕ) → List ℕ
-decimalIn zero n = digit n ∷ []
-decimalIn (suc steps) n = pick (ltb n ten) [] (decimalIn steps (n / ten)) ++ (digit n ∷ [])
+-- the digits of q, and none for 0: a step takes off the last, so q steps are enough
+unfoldable pub digitsIn : (steps q : ℕ) → List ℕ
+digitsIn zero q = []
+digitsIn (suc steps) zero = []
+digitsIn (suc steps) (suc q) = digitsIn steps (suc q / ten) ++ (digit (suc q) ∷ [])
 
--- n in decimal
-abbrev pub decimal : ℕ → List ℕ
-decimal n = decimalIn n n
+-- n in decimal: no leading zero, and 0 is `0`
+unfoldable pub decimal : ℕ → List ℕ
+decimal n = digitsIn n (n / ten) ++ (digit n ∷ [])
 
--- the last k digits of n
-unfoldable pub digits : (k n : ℕ) → List ℕ
-digits zero n = []
-digits (suc k) n = digits k (n / ten) ++ (digit n ∷ [])
+-- the most digits of a number of 64 bits
+abbrev pub numberMost : ℕ
+numberMost = 20
+
+-- the most digits of a word
+abbrev pub wordMost : ℕ
+wordMost = 10
 
 ------------------------------------------------------------------------
--- The line
+-- A line per record
 
+-- ` `
 abbrev pub space : ℕ
 space = 32
 
 abbrev pub newline : ℕ
 newline = 10
 
--- `-` for none, `?` for unready, else the word in decimal
+-- `-`
+abbrev pub dash : ℕ
+dash = 45
+
+-- `?`
+abbrev pub question : ℕ
+question = 63
+
+-- delivery (`-` for none, `?` for unready, else the word in decimal)
 unfoldable pub deliveryText : Delivery → List ℕ
-deliveryText Delivery.None = 45 ∷ []
-deliveryText Delivery.Unready = 63 ∷ []
+deliveryText Delivery.None = dash ∷ []
+deliveryText Delivery.Unready = question ∷ []
 deliveryText (Delivery.Word w) = decimal w
 
 -- a number and the space after it
@@ -53,16 +68,9 @@ field n = decimal n ++ (space ∷ [])
 unfoldable pub lineOf : (number answer : ℕ) → Delivery → List ℕ
 lineOf number answer d = field number ++ field answer ++ deliveryText d ++ (newline ∷ [])
 
--- the most digits of a number of 64 bits, and of a word
-abbrev pub numberMost : ℕ
-numberMost = 20
-
-abbrev pub wordMost : ℕ
-wordMost = 10
-
--- the most bytes of a line: three numbers, the last two of 32 bits, each with the byte after it
+-- the most bytes of a line: each of its three texts has one byte after it
 abbrev pub lineMost : ℕ
-lineMost = numberMost + 1 + wordMost + 1 + wordMost + 1
+lineMost = (numberMost + 1) + (wordMost + 1) + (wordMost + 1)
 
 ------------------------------------------------------------------------
 -- The room
@@ -70,3 +78,29 @@ lineMost = numberMost + 1 + wordMost + 1 + wordMost + 1
 -- the room with the bytes written from a place on
 unfoldable pub stored : (room : List ℕ) (at : ℕ) (bytes : List ℕ) → List ℕ
 stored room at bytes = take at room ++ bytes ++ drop (at + length bytes) room
+
+------------------------------------------------------------------------
+-- Digits two at a time
+
+-- the last k digits of n
+unfoldable pub digits : (k n : ℕ) → List ℕ
+digits zero n = []
+digits (suc k) n = digits k (n / ten) ++ (digit n ∷ [])
+
+abbrev pub pair : ℕ
+pair = 2
+
+abbrev pub hundred : ℕ
+hundred = 100
+
+-- the two digits of each number below n, one pair after the other
+unfoldable pub pairsBelow : ℕ → List ℕ
+pairsBelow zero = []
+pairsBelow (suc n) = pairsBelow n ++ digits pair n
+
+abbrev pub pairTable : List ℕ
+pairTable = pairsBelow hundred
+
+-- the most digits that are counted at once
+abbrev pub shortMost : ℕ
+shortMost = 8

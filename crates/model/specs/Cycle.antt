@@ -6,7 +6,7 @@ use lib.Dec.{eqb}
 use lib.ListN.{getD, set}
 use Rattle.answers.specs.Answers.{done, dropped, stopping}
 use Rattle.setup.specs.Choice.{pick}
-use Rattle.setup.specs.Setup.{banksOf}
+use Rattle.setup.specs.Setup.{merging, banksOf}
 use Rattle.setup.specs.declared.Setup.{Setup}
 use Rattle.map.specs.Map.{cellOf, bankOf}
 use Rattle.map.specs.declared.Address.{Address}
@@ -142,7 +142,7 @@ retiredRow s position r rows q =
 
 -- in merging mode
 unfoldable pub retired : Setup → ℕ → List ℕ → Buffers → Bool × Buffers
-retired s position rows q = pick (eqb (s .mode) 1) (retiredRow s position (rowAt rows position) rows q) (true, q)
+retired s position rows q = pick (merging s) (retiredRow s position (rowAt rows position) rows q) (true, q)
 
 ------------------------------------------------------------------------
 -- 4. Arrival. The operation fills the row of cycle t. It is taken where this answers true.
@@ -174,13 +174,13 @@ readMerged s position a Nothing rows q = readPlaced s position a rows q
 
 abbrev pub readArrived : Setup → ℕ → Address → List ℕ → Buffers → Arrived
 readArrived s position a rows q =
-    pick (eqb (s .mode) 1) (readMerged s position a (newestLive s position a rows) rows q)
+    pick (merging s) (readMerged s position a (newestLive s position a rows) rows q)
     (readPlaced s position a rows q)
 
 -- merging, a write places nothing; plain, it places an entry
 abbrev pub writeArrived : Setup → ℕ → Address → ℕ → List ℕ → Buffers → Arrived
 writeArrived s position a w rows q =
-    pick (eqb (s .mode) 1) (noted position (rowWith writeKind (a .0) w 0) rows q)
+    pick (merging s) (noted position (rowWith writeKind (a .0) w 0) rows q)
     (seated position (rowWith writeKind (a .0) w 0) rows (placed s (writeOf s a w) q))
 
 unfoldable pub arrived : Setup → ℕ → Operation → List ℕ → Buffers → Arrived

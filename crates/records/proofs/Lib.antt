@@ -1,3 +1,4 @@
+pub mod Choice
 pub mod Numbers
 pub mod Operation
 pub mod Setup

@@ -1,7 +1,7 @@
 -- The ways through the reading and the writing of an operation. Assumes nothing.
 use Prim.Native.Nat.{ℕ}
-use mathlib.Core.Path.{_≡_, refl, sym, ap, _∙_}
-use mathlib.Core.Bool.{Bool, true, false, _&&_}
+use mathlib.Core.Path.{_≡_, _∙_}
+use mathlib.Core.Bool.{true, false, _&&_}
 use mathlib.Core.List.{List, [], _∷_, _++_}
 use lib.Dec.{eqb}
 use lib.ListN.{length}
@@ -12,25 +12,30 @@ use Rattle.map.specs.declared.Address.{Address}
 use Rattle.port.specs.declared.Operation.{Operation}
 use Rattle.port.specs.declared.Operation.the-variants.{Idle, Read, Write}
 use Rattle.records.specs.declared.OperationRecord.{OperationRecord}
-use Rattle.records.specs.declared.OperationRecord.the-variants.{Good, Bad}
-use Rattle.records.specs.Records.{byteAt, numberAt, bytesOf, operationZeros, operationSize, idleKind, readKind, writeKind, goodIf, operationFrom, operationOf, operationLayout, operationBytes, operationWritten}
+use Rattle.records.specs.declared.OperationRecord.the-variants.{Bad}
+use Rattle.records.specs.Records.{byteAt, numberAt, bytesOf, operationSize, idleKind, readKind, writeKind, operationZeros, goodIf, operationFrom, operationOf, operationLayout, operationBytes, operationWritten}
 use Rattle.records.proofs.Numbers.{filled}
 
 ------------------------------------------------------------------------
--- Reading: r is what the kind's own case gave
+-- Reading
 
+-- r is what the case of the kind gave
 module _ (kind address word : ℕ) (r : OperationRecord) where
-  pub idle-from : kind ≡ idleKind → r ≡ goodIf (eqb address 0 && eqb word 0) Idle → r ≡ operationFrom kind address word
+  pub idle-from : kind ≡ idleKind → r ≡ goodIf (eqb address 0 && eqb word 0) Idle
+      → r ≡ operationFrom kind address word
   unfolding operationFrom
-  idle-from h e = cc (eq-eqb kind idleKind h)
+  idle-from h e = cc
 
-  pub read-from : (kind ≡ idleKind → ⊥) → kind ≡ readKind → r ≡ goodIf (eqb word 0) (Read (record { 0 = address })) → r ≡ operationFrom kind address word
+  pub read-from : kind ≡ readKind → r ≡ goodIf (eqb word 0) (Read (record { 0 = address }))
+      → r ≡ operationFrom kind address word
   unfolding operationFrom
-  read-from n h e = cc (ne-eqb kind idleKind n, eq-eqb kind readKind h)
+  read-from h e = cc
 
-  pub write-from : (kind ≡ idleKind → ⊥) → (kind ≡ readKind → ⊥) → r ≡ goodIf (eqb kind writeKind) (Write (record { 0 = address }) word) → r ≡ operationFrom kind address word
+  pub write-from : (kind ≡ idleKind → ⊥) → (kind ≡ readKind → ⊥)
+      → r ≡ goodIf (eqb kind writeKind) (Write (record { 0 = address }) word)
+      → r ≡ operationFrom kind address word
   unfolding operationFrom
-  write-from n₀ n₁ e = cc (ne-eqb kind idleKind n₀, ne-eqb kind readKind n₁)
+  write-from i d e = cc (ne-eqb kind idleKind i, ne-eqb kind readKind d)
 
 module _ (s : List ℕ) where
   pub wrong-length : (length s ≡ operationSize → ⊥) → Bad ≡ operationOf s
@@ -41,35 +46,47 @@ module _ (s : List ℕ) where
   unfolding operationOf
   wrong-zeros h z = cc (eq-eqb (length s) operationSize h)
 
-  pub right : (address word : ℕ) (r : OperationRecord) → length s ≡ operationSize → operationZeros s ≡ true → address ≡ numberAt 4 s 4 → word ≡ numberAt 4 s 8 → r ≡ operationFrom (byteAt s 0) address word → r ≡ operationOf s
+  pub right : (address word : ℕ) (r : OperationRecord) → length s ≡ operationSize → operationZeros s ≡ true
+      → address ≡ numberAt 4 s 4 → word ≡ numberAt 4 s 8 → r ≡ operationFrom (byteAt s 0) address word
+      → r ≡ operationOf s
   unfolding operationOf
   right address word r h z e₀ e₁ e₂ = cc (eq-eqb (length s) operationSize h)
 
 ------------------------------------------------------------------------
--- Writing: r and after are the answer and the room after it
+-- Writing
 
-pub other-room : (op : Operation) (room : List ℕ) → (length room ≡ operationSize → ⊥) → (badLength, room) ≡ operationWritten op room
+-- three stores fill the room
+pub stored : (room r₀ r₁ r₂ : List ℕ) (b₀ b₁ b₂ b₃ x y : ℕ) → length room ≡ operationSize
+    → r₀ ≡ sets room 0 (b₀ ∷ b₁ ∷ b₂ ∷ b₃ ∷ [])
+    → r₁ ≡ sets r₀ 4 (bytesOf 4 x)
+    → r₂ ≡ sets r₁ 8 (bytesOf 4 y)
+    → r₂ ≡ (b₀ ∷ b₁ ∷ b₂ ∷ b₃ ∷ []) ++ bytesOf 4 x ++ bytesOf 4 y
+unfolding bytesOf
+stored room r₀ r₁ r₂ b₀ b₁ b₂ b₃ x y h e₀ e₁ e₂ =
+    rw (e₂, e₁, e₀) (filled room ((b₀ ∷ b₁ ∷ b₂ ∷ b₃ ∷ []) ++ bytesOf 4 x ++ bytesOf 4 y) h)
+
+pub other-room : (op : Operation) (room : List ℕ) → (length room ≡ operationSize → ⊥)
+    → (badLength, room) ≡ operationWritten op room
 unfolding operationWritten
 other-room op room n = rw (ne-eqb (length room) operationSize n)
 
--- the three stores fill the room
-pub stored : (room r₀ r₁ r₂ : List ℕ) (b₀ b₁ b₂ b₃ x y : ℕ) → length room ≡ operationSize → r₀ ≡ sets room 0 (b₀ ∷ b₁ ∷ b₂ ∷ b₃ ∷ []) → r₁ ≡ sets r₀ 4 (bytesOf 4 x) → r₂ ≡ sets r₁ 8 (bytesOf 4 y) → r₂ ≡ (b₀ ∷ b₁ ∷ b₂ ∷ b₃ ∷ []) ++ bytesOf 4 x ++ bytesOf 4 y
-unfolding bytesOf
-stored room r₀ r₁ r₂ b₀ b₁ b₂ b₃ x y h e₀ e₁ e₂ = rw (e₂, e₁, e₀) (filled room ((b₀ ∷ b₁ ∷ b₂ ∷ b₃ ∷ []) ++ bytesOf 4 x ++ bytesOf 4 y) h)
-
+-- r and after are the answer and what the room then holds
 module _ (op : Operation) (room after : List ℕ) (r : ℕ) (h : length room ≡ operationSize) (d : r ≡ done) where
   written : after ≡ operationBytes op → (r, after) ≡ operationWritten op room
   unfolding operationWritten
   written e = rw (eq-eqb (length room) operationSize h, d, e)
 
-  pub idle-written : op ≡ Idle → after ≡ operationLayout idleKind 0 0 → (r, after) ≡ operationWritten op room
+  pub idle-written : op ≡ Idle → after ≡ operationLayout idleKind 0 0
+      → (r, after) ≡ operationWritten op room
   unfolding operationBytes
   idle-written o e = written (e ∙ rw o)
 
-  pub read-written : (x : Address) → op ≡ Read x → after ≡ operationLayout readKind (x .0) 0 → (r, after) ≡ operationWritten op room
+  pub read-written : (x : Address) → op ≡ Read x → after ≡ operationLayout readKind (x .0) 0
+      → (r, after) ≡ operationWritten op room
   unfolding operationBytes
   read-written x o e = written (e ∙ rw o)
 
-  pub write-written : (x : Address) (word : ℕ) → op ≡ Write x word → after ≡ operationLayout writeKind (x .0) word → (r, after) ≡ operationWritten op room
+  pub write-written : (x : Address) (word : ℕ) → op ≡ Write x word → after ≡ operationLayout writeKind (x .0) word
+      → (r, after) ≡ operationWritten op room
   unfolding operationBytes
   write-written x word o e = written (e ∙ rw o)

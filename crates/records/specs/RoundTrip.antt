@@ -25,14 +25,18 @@ Bytes s = (i : ℕ) → byteAt s i < base
 
 -- reading what was written gives it back
 abbrev pub OperationReadAsWritten : Type 0
-OperationReadAsWritten = (op : Operation) → Fits op → operationOf (operationBytes op) ≡ OperationRecord.Good op
+OperationReadAsWritten = (op : Operation) → Fits op
+    → operationOf (operationBytes op) ≡ OperationRecord.Good op
 
 abbrev pub SetupReadAsWritten : Type 0
-SetupReadAsWritten = (s : Setup) → allowed s ≡ true → setupOf (setupBytes s) ≡ SetupRecord.Good s
+SetupReadAsWritten = (s : Setup) → allowed s ≡ true
+    → setupOf (setupBytes s) ≡ SetupRecord.Good s
 
 -- writing what was read gives the same bytes
 abbrev pub OperationWrittenAsRead : Type 0
-OperationWrittenAsRead = (bytes : List ℕ) (op : Operation) → Bytes bytes → operationOf bytes ≡ OperationRecord.Good op → operationBytes op ≡ bytes
+OperationWrittenAsRead = (bytes : List ℕ) (op : Operation) → Bytes bytes → operationOf bytes ≡ OperationRecord.Good op
+    → operationBytes op ≡ bytes
 
 abbrev pub SetupWrittenAsRead : Type 0
-SetupWrittenAsRead = (bytes : List ℕ) (s : Setup) → Bytes bytes → setupOf bytes ≡ SetupRecord.Good s → setupBytes s ≡ bytes
+SetupWrittenAsRead = (bytes : List ℕ) (s : Setup) → Bytes bytes → setupOf bytes ≡ SetupRecord.Good s
+    → setupBytes s ≡ bytes

@@ -78,10 +78,7 @@ fn operation_from(kind: u8, address: u32, word: u32) -> OperationRecord
     if kind == KIND_READ {
         return good_if(word == 0, Operation::Read(Address(address)));
     }
-    good_if(
-        kind == KIND_WRITE,
-        Operation::Write(Address(address), word),
-    )
+    good_if(kind == KIND_WRITE, Operation::Write(Address(address), word))
 }
 
 // The operation in a record, or that the record is bad.
@@ -210,9 +207,11 @@ pub fn write_setup(s: Setup, room: &mut [u8]) -> u32
 {
     if allowed(s) {
         if room.len() == SETUP_BYTES {
-            return put_setup(room, s);
+            put_setup(room, s)
+        } else {
+            answers::BAD_LENGTH
         }
-        return answers::BAD_LENGTH;
+    } else {
+        answers::BAD_SETUP
     }
-    answers::BAD_SETUP
 }

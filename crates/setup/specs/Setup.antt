@@ -9,6 +9,10 @@ use Rattle.setup.specs.declared.Setup.{Setup}
 use Rattle.setup.specs.declared.Checked.{Checked}
 use Rattle.setup.specs.declared.Checked.the-variants.{Good, Refused}
 
+-- mode: 0 plain, 1 merging
+abbrev pub merging : Setup → Bool
+merging s = eqb (s .mode) 1
+
 -- N = 2^a words
 abbrev pub wordsOf : Setup → ℕ
 wordsOf s = 2 ^ (s .a)

@@ -45,7 +45,11 @@ fn or_default(x: u16, default: u16) -> u16
 }
 
 impl Setup {
-    pub const MAX_MODE: u8 = 1;
+    pub const PLAIN: u8 = 0;
+
+    pub const MERGING: u8 = 1;
+
+    pub const MAX_MODE: u8 = Self::MERGING;
 
     pub const MIN_A: u8 = 1;
 

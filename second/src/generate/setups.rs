@@ -1,13 +1,9 @@
-//! Setups: good ones within `cyclerun`'s room, ones too large for it, and ones to be refused.
+//! Setups: good ones within `cyclerun`'s room, and ones with which it ends at once.
 
+use crate::listing::{ROOM_A, ROOM_C, ROOM_ENTRIES};
 use crate::random::Random;
 use crate::records::{write_setup, SETUP_LENGTH};
 use crate::setup::Setup;
-
-/// The room of `cyclerun`.
-const LARGEST_A: usize = 12;
-const LARGEST_C: usize = 1024;
-const LARGEST_ENTRIES: usize = 1024;
 
 /// How large the numbers of a setup may get; `slack` is what Δ has above K·m and C above Δ.
 struct Sizes {
@@ -19,11 +15,11 @@ struct Sizes {
 }
 
 const TINY: Sizes = Sizes {
-    a: 5,
+    a: 7,
     s: 2,
     m: 6,
     k: 3,
-    slack: 5,
+    slack: 8,
 };
 
 const MIDDLE: Sizes = Sizes {
@@ -35,11 +31,11 @@ const MIDDLE: Sizes = Sizes {
 };
 
 const LARGE: Sizes = Sizes {
-    a: LARGEST_A,
+    a: ROOM_A as usize,
     s: 6,
     m: 64,
     k: 128,
-    slack: LARGEST_C,
+    slack: ROOM_C,
 };
 
 /// A setup in range and within the room of `cyclerun`.
@@ -57,8 +53,8 @@ fn within(sizes: &Sizes, random: &mut Random) -> Setup {
     let s = random.between(0, sizes.s.min(a));
     let m = random.between(1, sizes.m);
     let k = random.between(1, sizes.k.min(largest_k(s, m)));
-    let delta = LARGEST_C.min(k * m + slack(sizes, random));
-    let c = LARGEST_C.min(delta + slack(sizes, random));
+    let delta = ROOM_C.min(k * m + slack(sizes, random));
+    let c = ROOM_C.min(delta + slack(sizes, random));
     written([a, s, m, k, delta, c], random)
 }
 
@@ -72,24 +68,28 @@ fn slack(sizes: &Sizes, random: &mut Random) -> usize {
 
 /// Every number at one end of its range, as far as the room goes.
 fn at_the_ends(random: &mut Random) -> Setup {
-    let a = random.pick(&[1, LARGEST_A]);
+    let a = random.pick(&[1, ROOM_A as usize]);
     let s = random.pick(&[0, a.min(6)]);
     let m = random.pick(&[1, 64]);
     let k = random.pick(&[1, largest_k(s, m)]);
-    let delta = random.pick(&[k * m, LARGEST_C]);
-    let c = random.pick(&[delta, LARGEST_C]);
+    let delta = random.pick(&[k * m, ROOM_C]);
+    let c = random.pick(&[delta, ROOM_C]);
     written([a, s, m, k, delta, c], random)
 }
 
 /// The largest K for which the room has enough entries and rows.
 fn largest_k(s: usize, m: usize) -> usize {
-    128.min(LARGEST_ENTRIES >> s).min(LARGEST_C / m)
+    128.min(ROOM_ENTRIES >> s).min(ROOM_C / m)
 }
 
 /// The setup of these numbers, in either mode and with some address map. A default is at times written as 0.
 fn written([a, s, m, k, delta, c]: [usize; 6], random: &mut Random) -> Setup {
     let n = 1 << a;
     let defaults = random.chance(50);
+    let or_zero = |number, default| match number {
+        _ if defaults && number == default => 0,
+        number => number as u16,
+    };
     let (any_odd, any) = (2 * random.below(n / 2) + 1, random.below(n));
     Setup {
         mode: u8::from(random.chance(65)),
@@ -97,12 +97,8 @@ fn written([a, s, m, k, delta, c]: [usize; 6], random: &mut Random) -> Setup {
         s: s as u8,
         m: m as u8,
         k: k as u16,
-        delta: if defaults && delta == k * m {
-            0
-        } else {
-            delta as u16
-        },
-        c: if defaults && c == delta { 0 } else { c as u16 },
+        delta: or_zero(delta, k * m),
+        c: or_zero(c, delta),
         u: random.pick(&[1, n - 1, any_odd]) as u32,
         v: random.pick(&[0, n - 1, any]) as u32,
     }
@@ -173,22 +169,32 @@ pub const REFUSED: [Setup; 31] = [
     Setup { a: 13, u: 4, v: u32::MAX, ..SMALL },
 ];
 
-/// A setup in range that is too large for `cyclerun`.
-pub fn too_large(random: &mut Random) -> Setup {
-    in_either_mode(random.pick(&TOO_LARGE), random)
+/// Setup files with which `cyclerun` ends at once; the numbers go through all of them in turn.
+pub fn ending(number: u64, random: &mut Random) -> Option<Vec<u8>> {
+    let mut endings = not_a_record(&write_setup(&in_either_mode(SMALL, random)));
+    for setup in REFUSED.into_iter().chain(TOO_LARGE) {
+        endings.push(Some(write_setup(&in_either_mode(setup, random))));
+    }
+    let at = number % endings.len() as u64;
+    endings.swap_remove(at as usize)
 }
 
-/// A setup file that is missing, of a wrong length, with a wrong zero byte or out of range.
-pub fn refused(random: &mut Random) -> Option<Vec<u8>> {
-    let mut record = write_setup(&in_either_mode(SMALL, random));
-    match random.below(12) {
-        0 => return None,
-        1 => record.truncate(random.pick(&[0, 1, SETUP_LENGTH - 1])),
-        2 => record.extend(vec![0; random.pick(&[1, SETUP_LENGTH])]),
-        3 => record[random.pick(&[10, 11])] = 1 << random.below(8),
-        _ => record = write_setup(&in_either_mode(random.pick(&REFUSED), random)),
-    }
-    Some(record)
+/// A file that is missing, of a wrong length or with a wrong zero byte.
+fn not_a_record(good: &[u8]) -> Vec<Option<Vec<u8>>> {
+    let with_byte = |at: usize| {
+        let mut record = good.to_vec();
+        record[at] = 1;
+        record
+    };
+    vec![
+        None,
+        Some(Vec::new()),
+        Some(good[..SETUP_LENGTH - 1].to_vec()),
+        Some([good, &[0]].concat()),
+        Some(good.repeat(2)),
+        Some(with_byte(10)),
+        Some(with_byte(11)),
+    ]
 }
 
 /// The mode is left alone where it is the number out of range.

@@ -24,8 +24,8 @@ enum Pattern {
     Echo,
 }
 
-/// The busy patterns; those that fill a buffer stand here twice.
-const BUSY: [Pattern; 9] = [
+/// The busy patterns; those that fill a buffer or come back when a row retires stand here twice.
+const BUSY: [Pattern; 10] = [
     Pattern::Hot,
     Pattern::Stride,
     Pattern::Stride,
@@ -34,6 +34,7 @@ const BUSY: [Pattern; 9] = [
     Pattern::Uniform,
     Pattern::Burst,
     Pattern::Burst,
+    Pattern::Echo,
     Pattern::Echo,
 ];
 

@@ -1,48 +1,51 @@
+-- `buffers::part_ok` meets its contract. The loop's invariant: `ok` says whether the i oldest entries are in range. Assumes nothing.
+use Prim.Native.Nat.{_≤_, _-_}
+use mathlib.Core.Path.{_≡_}
+use native.Mathlib.Omega.{arith}
+use borrow.Author.Needs.{needs}
+use Rattle.buffers.specs.Part.{partOk}
+use Rattle.buffers.proofs.Waiting.{part-next}
 use Rattle.buffers.proofs.part_ok.Statement.{statement}
 use Rattle.buffers.proofs.part_ok.Tie as tie
-use Rattle.buffers.proofs.part_ok.Reads as reads
-use Rattle.buffers.proofs.part_ok.Lts as lts
-use Rattle.buffers.proofs.entry_at.Reads as entry-at-reads
-use Rattle.buffers.proofs.entry_ok.Reads as entry-ok-reads
-use Rattle.places.proofs.onward.Reads as onward-reads
 
 abbrev Inv-loop : tie.InvT-loop
-Inv-loop part k oldest count n c ok₀ i₀ ok i = ?
+Inv-loop part k oldest count n c ok₀ i₀ ok i = (i ≤ count) × (ok ≡ partOk n c k oldest part i)
 
 abbrev μ-loop : tie.MeasureT-loop
-μ-loop part k oldest count n c ok₀ i₀ ok i = ?
+μ-loop part k oldest count n c ok₀ i₀ ok i = count - i
 
--- src/lib.rt:66:5
 loop-holds : tie.Need-loop-holds Inv-loop μ-loop
-loop-holds c = ?
+unfolding partOk
+loop-holds c = search needs
 
--- src/lib.rt:67:32
+cast-onward : tie.Need-cast-onward Inv-loop μ-loop
+cast-onward c = search needs
+
 onward-requires : tie.Need-onward-requires Inv-loop μ-loop
-onward-requires c κs = ?
+onward-requires c κs = search needs
 
--- src/lib.rt:67:13
 entry-at-requires : tie.Need-entry-at-requires Inv-loop μ-loop
-entry-at-requires c κs = ?
+entry-at-requires c κs = search needs
 
--- src/lib.rt:68:19
 entry-ok-requires : tie.Need-entry-ok-requires Inv-loop μ-loop
-entry-ok-requires c κs = ?
+entry-ok-requires c κs = search needs
 
--- src/lib.rt:69:9
 add-i : tie.Need-add-i Inv-loop μ-loop
-add-i c = ?
+add-i c = search needs
 
--- src/lib.rt:66:5
 loop-less : tie.Need-loop-less Inv-loop μ-loop
-loop-less c = ?
+loop-less c = search needs
 
--- src/lib.rt:66:5
 loop-again : tie.Need-loop-again Inv-loop μ-loop
-loop-again c = ?
+loop-again c = (
+  search needs,
+  part-next _ _ _ _ _ _ _ _ _ _ (c .before .before .before .before .loop .inv .1) (c .before .before .onward .ensures .0) (c .before .entry-at .ensures) (c .entry-ok .ensures),
+)
 
--- src/lib.rt:60:1
 returns : tie.Need-returns Inv-loop μ-loop
-returns c = ?
+returns c =
+    let e : c .before .loop .i ≡ c .before .before .before .args .count = omega arith in
+    rw e at (c .before .loop .inv .1)
 
 pub part-ok-spec : {M : Type 1} → statement M
 part-ok-spec =
@@ -51,6 +54,7 @@ part-ok-spec =
     Inv-loop
     μ-loop
     loop-holds
+    cast-onward
     onward-requires
     entry-at-requires
     entry-ok-requires

@@ -1,42 +1,31 @@
+-- `buffers::put_head` meets its contract: a store leaves the length. Assumes nothing.
+use native.Mathlib.Omega.{arith}
+use lib.ListN.{length-set}
 use borrow.Author.Needs.{needs}
 use Rattle.buffers.proofs.put_head.Statement.{statement}
 use Rattle.buffers.proofs.put_head.Tie as tie
-use Rattle.buffers.proofs.put_head.Reads as reads
-use Rattle.buffers.proofs.put_head.Lts as lts
 
--- src/lib.rt:95:11
+mul-at : tie.Need-mul-at
+mul-at c = search needs
+
 mul-heads : tie.Need-mul-heads
 mul-heads c = search needs
 
--- src/lib.rt:95:5
-mul-heads-2 : tie.Need-mul-heads-2
-mul-heads-2 c = search needs
-
--- src/lib.rt:95:5
 slice-write-heads : tie.Need-slice-write-heads
 slice-write-heads c = search needs
 
--- src/lib.rt:96:11
-mul-heads-3 : tie.Need-mul-heads-3
-mul-heads-3 c = search needs
-
--- src/lib.rt:96:11
 add-heads : tie.Need-add-heads
 add-heads c = search needs
 
--- src/lib.rt:96:5
-mul-heads-4 : tie.Need-mul-heads-4
-mul-heads-4 c = search needs
+mul-heads-2 : tie.Need-mul-heads-2
+mul-heads-2 c = search needs
 
--- src/lib.rt:96:5
 slice-write-heads-2 : tie.Need-slice-write-heads-2
-slice-write-heads-2 c = ?
+slice-write-heads-2 c = simp length-set (omega arith)
 
--- src/lib.rt:91:1
 same-length : tie.Need-same-length
 same-length c = search needs
 
--- src/lib.rt:91:1
 returns : tie.Need-returns
 returns c = search needs
 
@@ -44,12 +33,11 @@ pub put-head-spec : {M : Type 1} → statement M
 put-head-spec =
     tie.close
     (tie.spec
+    mul-at
     mul-heads
-    mul-heads-2
     slice-write-heads
-    mul-heads-3
     add-heads
-    mul-heads-4
+    mul-heads-2
     slice-write-heads-2
     same-length
     returns)

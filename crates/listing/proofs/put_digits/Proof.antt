@@ -1,51 +1,54 @@
+-- `listing::put_digits` meets its contract. The loop's invariant: with the digits that are left put in front, the room is as it is to be. Assumes nothing.
+use Prim.Native.Nat.{_≤_}
+use mathlib.Core.Path.{_≡_}
+use lib.ListN.{length}
+use borrow.Author.Needs.{needs}
+use Rattle.listing.specs.Listing.{digits, stored}
+use Rattle.listing.proofs.TwoDigits.{digits-turn, digits-even, digits-odd}
 use Rattle.listing.proofs.put_digits.Statement.{statement}
 use Rattle.listing.proofs.put_digits.Tie as tie
-use Rattle.listing.proofs.put_digits.Reads as reads
-use Rattle.listing.proofs.put_digits.Lts as lts
-use Rattle.listing.proofs.last_digit.Reads as last-digit-reads
-use Rattle.listing.proofs.put_byte.Reads as put-byte-reads
 
 abbrev Inv-loop : tie.InvT-loop
-Inv-loop out₀ at k n left₀ rest₀ out left rest = ?
+Inv-loop table out₀ at k n left₀ rest₀ out left rest = (left ≤ k) × (length out ≡ length out₀) × (stored out at (digits left rest) ≡ stored out₀ at (digits k n))
 
 abbrev μ-loop : tie.MeasureT-loop
-μ-loop out₀ at k n left₀ rest₀ out left rest = ?
+μ-loop table out₀ at k n left₀ rest₀ out left rest = left
 
--- src/lib.rt:65:5
 loop-holds : tie.Need-loop-holds Inv-loop μ-loop
-loop-holds c = ?
+loop-holds c = search needs
 
--- src/lib.rt:66:9
 sub-left : tie.Need-sub-left Inv-loop μ-loop
-sub-left c = ?
+sub-left c = search needs
 
--- src/lib.rt:67:23
-add-put-byte : tie.Need-add-put-byte Inv-loop μ-loop
-add-put-byte c = ?
+add-put-pair : tie.Need-add-put-pair Inv-loop μ-loop
+add-put-pair c = search needs
 
--- src/lib.rt:67:34
-last-digit-requires : tie.Need-last-digit-requires Inv-loop μ-loop
-last-digit-requires c κs = ?
+put-pair-requires : tie.Need-put-pair-requires Inv-loop μ-loop
+put-pair-requires c κs = search needs
 
--- src/lib.rt:67:9
-put-byte-requires : tie.Need-put-byte-requires Inv-loop μ-loop
-put-byte-requires c κs = ?
-
--- src/lib.rt:65:5
 loop-less : tie.Need-loop-less Inv-loop μ-loop
-loop-less c = ?
+loop-less c = search needs
 
--- src/lib.rt:65:5
 loop-again : tie.Need-loop-again Inv-loop μ-loop
-loop-again c = ?
+loop-again c = (search needs, search needs, search (digits-turn))
 
--- src/lib.rt:59:1
 same-length : tie.Need-same-length Inv-loop μ-loop
-same-length c = ?
+same-length c = search needs
 
--- src/lib.rt:59:1
 returns : tie.Need-returns Inv-loop μ-loop
-returns c = ?
+returns c = search (digits-even)
+
+last-digit-requires : tie.Need-last-digit-requires Inv-loop μ-loop
+last-digit-requires c κs = search needs
+
+put-byte-requires : tie.Need-put-byte-requires Inv-loop μ-loop
+put-byte-requires c κs = search needs
+
+same-length-2 : tie.Need-same-length-2 Inv-loop μ-loop
+same-length-2 c = search needs
+
+returns-2 : tie.Need-returns-2 Inv-loop μ-loop
+returns-2 c = search (digits-odd)
 
 pub put-digits-spec : {M : Type 1} → statement M
 put-digits-spec =
@@ -55,10 +58,13 @@ put-digits-spec =
     μ-loop
     loop-holds
     sub-left
-    add-put-byte
-    last-digit-requires
-    put-byte-requires
+    add-put-pair
+    put-pair-requires
     loop-less
     loop-again
     same-length
-    returns)
+    returns
+    last-digit-requires
+    put-byte-requires
+    same-length-2
+    returns-2)

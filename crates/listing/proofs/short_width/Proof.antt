@@ -1,39 +1,33 @@
+-- `listing::short_width` meets its contract: the tests on the way to an answer are the two powers of ten beside n. Assumes nothing.
+use mathlib.Core.Path.{sym}
+use native.Mathlib.Omega.{arith}
+use Rattle.listing.proofs.Digits.{length-one, length-at}
 use Rattle.listing.proofs.short_width.Statement.{statement}
 use Rattle.listing.proofs.short_width.Tie as tie
-use Rattle.listing.proofs.short_width.Reads as reads
-use Rattle.listing.proofs.short_width.Lts as lts
 
--- src/lib.rt:35:13
 returns : tie.Need-returns
-returns c = ?
+returns c = (sym (length-one _ (omega arith)), omega arith)
 
--- src/lib.rt:35:13
 returns-2 : tie.Need-returns-2
-returns-2 c = ?
+returns-2 c = (sym (length-at 1 _ (omega arith) (omega arith)), omega arith)
 
--- src/lib.rt:37:9
 returns-3 : tie.Need-returns-3
-returns-3 c = ?
+returns-3 c = (sym (length-at 2 _ (omega arith) (omega arith)), omega arith)
 
--- src/lib.rt:37:9
 returns-4 : tie.Need-returns-4
-returns-4 c = ?
+returns-4 c = (sym (length-at 3 _ (omega arith) (omega arith)), omega arith)
 
--- src/lib.rt:40:9
 returns-5 : tie.Need-returns-5
-returns-5 c = ?
+returns-5 c = (sym (length-at 4 _ (omega arith) (omega arith)), omega arith)
 
--- src/lib.rt:40:9
 returns-6 : tie.Need-returns-6
-returns-6 c = ?
+returns-6 c = (sym (length-at 5 _ (omega arith) (omega arith)), omega arith)
 
--- src/lib.rt:29:1
 returns-7 : tie.Need-returns-7
-returns-7 c = ?
+returns-7 c = (sym (length-at 6 _ (omega arith) (omega arith)), omega arith)
 
--- src/lib.rt:29:1
 returns-8 : tie.Need-returns-8
-returns-8 c = ?
+returns-8 c = (sym (length-at 7 _ (omega arith) (omega arith)), omega arith)
 
 pub short-width-spec : {M : Type 1} → statement M
 short-width-spec =

@@ -1,41 +1,36 @@
+-- `listing::width` meets its contract: the digits above the last eight or sixteen are those of the quotient. Assumes nothing.
+use native.Mathlib.Omega.{arith}
+use Rattle.listing.proofs.Digits.{length-from, number-most}
 use borrow.Author.Needs.{needs}
 use Rattle.listing.proofs.width.Statement.{statement}
 use Rattle.listing.proofs.width.Tie as tie
-use Rattle.listing.proofs.width.Reads as reads
-use Rattle.listing.proofs.width.Lts as lts
-use Rattle.listing.proofs.short_width.Reads as short-width-reads
 
--- src/lib.rt:50:9
 short-width-requires : tie.Need-short-width-requires
 short-width-requires c κs = search needs
 
--- src/lib.rt:50:9
 returns : tie.Need-returns
 returns c = search needs
 
--- src/lib.rt:53:20
 short-width-requires-2 : tie.Need-short-width-requires-2
 short-width-requires-2 c κs = search needs
 
--- src/lib.rt:53:16
 add-result : tie.Need-add-result
-add-result c = ?
+add-result c = search needs
 
--- src/lib.rt:53:9
 returns-2 : tie.Need-returns-2
-returns-2 c = ?
+returns-2 c = (length-from 8 _ _ (omega arith) (c .short-width2 .ensures .0), omega arith)
 
--- src/lib.rt:55:10
 short-width-requires-3 : tie.Need-short-width-requires-3
 short-width-requires-3 c κs = search needs
 
--- src/lib.rt:55:5
 add-result-2 : tie.Need-add-result-2
-add-result-2 c = ?
+add-result-2 c = search needs
 
--- src/lib.rt:46:1
 returns-3 : tie.Need-returns-3
-returns-3 c = ?
+returns-3 c =
+    let n = c .before .before .before .args .n in
+    let all = length-from 16 n (c .short-width3 .result) (omega arith) (c .short-width3 .ensures .0) in
+    (all, omega (arith, number-most n (omega arith)))
 
 pub width-spec : {M : Type 1} → statement M
 width-spec =

@@ -20,7 +20,12 @@ same-length : tie.Need-same-length
 same-length c = search needs
 
 returns : tie.Need-returns
-returns c = search (stored-middle)
+returns c =
+    let c₄ = c .before .before in
+    let c₃ = c₄ .before .before .before .before in
+    let c₂ = c₃ .before .before .before .before in
+    let c₁ = c₂ .before .before .before .before in
+    stored-middle _ _ _ _ _ _ _ _ (c₁ .put-two .ensures) (c₂ .put-two2 .ensures) (c₃ .put-two3 .ensures) (c₄ .put-two4 .ensures)
 
 pub put-middle-spec : {M : Type 1} → statement M
 put-middle-spec =

@@ -1,6 +1,6 @@
 -- `setup_fields` meets its contract: the calls give the longer numbers. Assumes nothing.
 use borrow.Author.Needs.{needs}
-use Rattle.records.specs.Records.{setupFields}
+use Rattle.records.proofs.Setup.{fields}
 use Rattle.records.proofs.setup_fields.Statement.{statement}
 use Rattle.records.proofs.setup_fields.Tie as tie
 
@@ -32,8 +32,7 @@ four-at-requires-2 : tie.Need-four-at-requires-2
 four-at-requires-2 c κs = search needs
 
 returns : tie.Need-returns
-unfolding setupFields
-returns c = cc
+returns c = search (fields)
 
 pub setup-fields-spec : {M : Type 1} → statement M
 setup-fields-spec =

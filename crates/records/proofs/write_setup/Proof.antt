@@ -1,4 +1,4 @@
--- `write_setup` meets its contract: each return knows the check, and then the length of the room. Assumes nothing.
+-- `write_setup` meets its contract: each answer knows the check, and then the length of the room. Assumes nothing.
 use borrow.Author.Needs.{needs}
 use Rattle.records.proofs.Setup.{written, other-room, out-of-range}
 use Rattle.records.proofs.write_setup.Statement.{statement}

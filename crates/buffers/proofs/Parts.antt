@@ -1,16 +1,14 @@
--- Four numbers at a place: read and put in a part of a room as in the whole, and read once they are put. Assumes nothing.
+-- Four numbers at a place of a part of a room: read and put there as in the whole room, for rows and for entries. Assumes nothing.
 use Prim.Native.Nat.{ℕ, _+_, _*_, _≤_, _<_}
 use mathlib.Core.List.{List, [], _∷_, _++_}
 use mathlib.Core.Path.{_≡_, ap, sym, _∙_}
 use native.Mathlib.Nat.{zero-add, suc-add}
 use native.Mathlib.Omega.{arith}
-use lib.ListN.{length, take, drop, getD, set, length-take, length-drop, length-set}
-use lib.Seq.{getD-take, getD-drop, getD-set-same, getD-set-other, length-take-le, set-append-left}
+use lib.ListN.{length, take, set, length-take, length-drop, length-set}
+use lib.Seq.{getD-take, getD-drop, length-take-le, set-append-left}
 use borrow.Rule.Slice.PartMut.{midOf, postOf, putMid, put-same}
+use Rattle.model.proofs.Four.{fourAt}
 use Rattle.model.specs.Lent.{putFour}
-
-------------------------------------------------------------------------
--- In a part: the n numbers from 4·p on
 
 set-append-right : (l r : List ℕ) (i v : ℕ) → set (l ++ r) (length l + i) v ≡ l ++ set r i v
 set-append-right [] r i v = rw zero-add
@@ -23,10 +21,7 @@ set-part a n xs ys i v ha hi =
     ∙ sym (set-append-right (take a xs) (ys ++ postOf a n xs) i v)
     ∙ ap (λ (k : ℕ). set (putMid a n xs ys) (k + i) v) (length-take-le a xs ha)
 
--- the four numbers at place i, taken together by f
-abbrev pub fourAt : {A : Type 0} → (ℕ → ℕ → ℕ → ℕ → A) → List ℕ → ℕ → A
-fourAt f l i = f (getD l (4 * i) 0) (getD l (4 * i + 1) 0) (getD l (4 * i + 2) 0) (getD l (4 * i + 3) 0)
-
+-- the part is the n numbers from place p on, and j a place of it
 module _ (p n : ℕ) (xs : List ℕ) (j : ℕ) (within : 4 * j + 4 ≤ n) where
   i₀ : 4 * p + 4 * j ≡ 4 * (p + j)
   i₀ = omega arith
@@ -73,10 +68,3 @@ module _ (p n : ℕ) (xs : List ℕ) (j : ℕ) (within : 4 * j + 4 ≤ n) where
         i₂,
         i₃,
       )
-
-------------------------------------------------------------------------
--- Once they are put
-
-module _ (l : List ℕ) (i a b c d : ℕ) where
-  pub length-put-four : length (putFour l i a b c d) ≡ length l
-  length-put-four = simp length-set

@@ -1,1 +1,0 @@
--- The range check of the buffers. Assumes nothing.

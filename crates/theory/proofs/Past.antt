@@ -1,0 +1,128 @@
+-- The three ways of a cycle on the ledger; the past that lists of operations leave; a read that is taken leaves delay cycles later. Assumes nothing.
+use mathlib.Core.Path.{_≡_, refl, sym, ap, _∙_}
+use mathlib.Core.Bool.{Bool, true, false, cond}
+use mathlib.Core.List.{List, [], _∷_, _++_}
+use mathlib.Core.Logic.{_≢_}
+use Prim.Native.Nat.{ℕ, suc, _+_, _-_}
+use native.Mathlib.Nat.{add-zero, zero-add}
+use native.Mathlib.Omega.{arith}
+use lib.ListN.{length, drop}
+use lib.Seq.{drop-drop}
+use Rattle.theory.proofs.Test.{same, same-refl, same-false}
+use Rattle.theory.proofs.Operations.{Op, idle, read, write, Setup, unready, word, owed, done, dropped, stopping}
+use Rattle.theory.proofs.Calls.{after, after-append}
+use Rattle.theory.proofs.Ledger.{Ledger, Line, goes, stops, pastOf, Goes, servedL, retiredL, leaving, asking, free, given, noted, sram, owedL, givesL, cycleL, answerL, freshL, reachedL}
+
+------------------------------------------------------------------------
+-- The ways of a cycle
+
+module _ {W : Type 0} (mode : Bool) (g : Setup) (K : ℕ) (o : Op W) (l : Ledger W) where
+  -- its answer, and what it leaves
+  pub data Way : ℕ → Line W → Type 0 where
+    takes : free g K (leaving mode g (l .past)) (servedL g l) ≡ true → free g K (asking mode g (l .past) o) (retiredL mode g l) ≡ true
+        → Way done (goes (noted o (given g (asking mode g (l .past) o) (retiredL mode g l))))
+    drops : free g K (leaving mode g (l .past)) (servedL g l) ≡ true → free g K (asking mode g (l .past) o) (retiredL mode g l) ≡ false → Way dropped (goes (noted idle (retiredL mode g l)))
+    halts : free g K (leaving mode g (l .past)) (servedL g l) ≡ false → Way stopping (stops (servedL g l))
+
+  pub way : Way (answerL mode g K o (goes l)) (cycleL mode g K o (goes l))
+  way = go (free g K (leaving mode g (l .past)) (servedL g l)) (free g K (asking mode g (l .past) o) (retiredL mode g l)) refl refl
+    where
+      go : (x y : Bool) → free g K (leaving mode g (l .past)) (servedL g l) ≡ x → free g K (asking mode g (l .past) o) (retiredL mode g l) ≡ y
+          → Way (cond x (cond y done dropped) stopping)
+          (cond x (cond y (goes (noted o (given g (asking mode g (l .past) o) (retiredL mode g l)))) (goes (noted idle (retiredL mode g l)))) (stops (servedL g l)))
+      go true true p q = takes p q
+      go true false p q = drops p q
+      go false y p q = halts p
+
+------------------------------------------------------------------------
+-- The past
+
+module _ {W : Type 0} (mode : Bool) (g : Setup) (K : ℕ) where
+  goes-before : (o : Op W) (x : Line W) → Goes (cycleL mode g K o x) → Goes x
+  goes-before o (goes l) h = tt
+  goes-before o (stops l) h = h
+
+  pub goes-all-along : (more : List (Op W)) (x : Line W) → Goes (after (cycleL mode g K) more x) → Goes x
+  goes-all-along [] x h = h
+  goes-all-along (o ∷ more) x h = goes-before o x (goes-all-along more (cycleL mode g K o x) h)
+
+  -- each cycle that passes adds one operation, and a dropped one stands as idle
+  way-past : (o : Op W) (l : Ledger W) (n : ℕ) (x : Line W) → Way mode g K o l n x → Goes x → pastOf x ≡ cond (same n done) o idle ∷ l .past
+  way-past o l n x (takes p q) h = rw (same-refl done)
+  way-past o l n x (drops p q) h = rw (same-false {a = dropped} {b = done} (λ e. omega arith))
+  way-past o l n x (halts p) h = absurd h
+
+  pub cycle-past : (o : Op W) (x : Line W) → Goes (cycleL mode g K o x) → pastOf (cycleL mode g K o x) ≡ cond (same (answerL mode g K o x) done) o idle ∷ pastOf x
+  cycle-past o (goes l) h = way-past o l (answerL mode g K o (goes l)) (cycleL mode g K o (goes l)) (way mode g K o l) h
+  cycle-past o (stops l) h = absurd h
+
+  after-past : (more : List (Op W)) (x : Line W) → Goes (after (cycleL mode g K) more x) → drop (length more) (pastOf (after (cycleL mode g K) more x)) ≡ pastOf x
+  after-past [] x h = refl
+  after-past (o ∷ more) x h =
+      let n : suc (length more) ≡ length more + 1 = omega arith in
+      let e = cycle-past o x (goes-all-along more (cycleL mode g K o x) h) in
+      rw (n, ← (drop-drop 1 (length more) (pastOf (after (cycleL mode g K) more (cycleL mode g K o x)))), after-past more (cycleL mode g K o x) h, e)
+
+  after-longer : (more : List (Op W)) (x : Line W) → Goes (after (cycleL mode g K) more x) → length (pastOf (after (cycleL mode g K) more x)) ≡ length (pastOf x) + length more
+  after-longer [] x h = sym (add-zero _)
+  after-longer (o ∷ more) x h =
+      let e = cycle-past o x (goes-all-along more (cycleL mode g K o x) h) in
+      after-longer more (cycleL mode g K o x) h ∙ rw e (omega arith)
+
+  -- as many operations as were offered have passed
+  pub past-long : (ops : List (Op W)) → Goes (reachedL mode g K ops) → length (pastOf (reachedL mode g K ops)) ≡ length ops
+  past-long ops h = after-longer ops freshL h ∙ zero-add (length ops)
+
+  -- of an operation that is taken: the port goes before and after it
+  way-goes : (o : Op W) (l : Ledger W) (n : ℕ) (x : Line W) → Way mode g K o l n x → n ≡ done → Goes x
+  way-goes o l n x (takes p q) e = tt
+  way-goes o l n x (drops p q) e = tt
+  way-goes o l n x (halts p) e = omega arith
+
+  taken-goes-on : (o : Op W) (x : Line W) → answerL mode g K o x ≡ done → Goes (cycleL mode g K o x)
+  taken-goes-on o (goes l) e = way-goes o l (answerL mode g K o (goes l)) (cycleL mode g K o (goes l)) (way mode g K o l) e
+  taken-goes-on o (stops l) e = omega arith
+
+  pub taken-goes : (o : Op W) (x : Line W) → answerL mode g K o x ≡ done → Goes x
+  taken-goes o x e = goes-before o x (taken-goes-on o x e)
+
+  -- and it is noted
+  pub taken-past : (o : Op W) (x : Line W) → answerL mode g K o x ≡ done → pastOf (cycleL mode g K o x) ≡ o ∷ pastOf x
+  taken-past o x e = cycle-past o x (taken-goes-on o x e) ∙ rw (e, same-refl done)
+
+------------------------------------------------------------------------
+-- Delivery
+
+module _ {W : Type 0} (mem : ℕ → W) where
+  owed-ready : (o : Op W) (v : ℕ → W) → owed o v ≢ unready
+  owed-ready idle v p = let z : _≡_ {A = ℕ} 0 1 = cc p in omega arith
+  owed-ready (read a) v p = let z : _≡_ {A = ℕ} 0 1 = cc p in omega arith
+  owed-ready (write a w) v p = let z : _≡_ {A = ℕ} 0 1 = cc p in omega arith
+
+  ready : (p : List (Op W)) → owedL mem p ≢ unready
+  ready [] p = let z : _≡_ {A = ℕ} 0 1 = cc p in omega arith
+  ready (o ∷ earlier) p = owed-ready o (sram mem earlier) p
+
+  -- the ledger never delivers unready
+  pub never-unready : (g : Setup) (x : Line W) → givesL g mem x ≢ unready
+  never-unready g (goes l) = ready (drop (g .delay - 1) (l .past))
+  never-unready g (stops l) = ready []
+
+module _ {W : Type 0} (mode : Bool) (g : Setup) (K : ℕ) (mem : ℕ → W) where
+  gives-owed : (x : Line W) → Goes x → givesL g mem x ≡ owedL mem (drop (g .delay - 1) (pastOf x))
+  gives-owed (goes l) h = refl
+  gives-owed (stops l) h = absurd h
+
+  -- a read of a that is taken leaves delay cycles later, if the port still goes, with the ideal SRAM's word of a at its own cycle
+  pub read-leaves : (ops : List (Op W)) (a : ℕ) → answerL mode g K (read a) (reachedL mode g K ops) ≡ done → (more : List (Op W)) → suc (length more) ≡ g .delay
+      → Goes (reachedL mode g K (ops ++ read a ∷ more)) → givesL g mem (reachedL mode g K (ops ++ read a ∷ more)) ≡ word (sram mem (pastOf (reachedL mode g K ops)) a)
+  read-leaves ops a t more d h = gives-owed (reachedL mode g K (ops ++ read a ∷ more)) h ∙ ap (owedL mem) back
+    where
+      split : reachedL mode g K (ops ++ read a ∷ more) ≡ after (cycleL mode g K) more (cycleL mode g K (read a) (reachedL mode g K ops))
+      split = after-append (cycleL mode g K) ops (read a ∷ more) freshL
+
+      back : drop (g .delay - 1) (pastOf (reachedL mode g K (ops ++ read a ∷ more))) ≡ read a ∷ pastOf (reachedL mode g K ops)
+      back =
+          let n : g .delay - 1 ≡ length more = omega arith in
+          rw (n, split) (after-past mode g K more (cycleL mode g K (read a) (reachedL mode g K ops)) (rw split at h))
+          ∙ taken-past mode g K (read a) (reachedL mode g K ops) t
