@@ -1,0 +1,40 @@
+-- A checked setup and the port as the theory has them: its addresses are cells and its words numbers. Assumes nothing.
+use Prim.Native.Nat.{ℕ, _-_, _*_, _%_, _≤_}
+use native.Mathlib.Nat.{mul-le-mul, mod-lt}
+use native.Mathlib.Omega.{arith}
+use lib.Pow.{pow-pos}
+use Rattle.setup.specs.Setup.{Ranges, banksOf}
+use Rattle.setup.specs.declared.Setup.{Setup}
+use Rattle.map.specs.Map.{cellOf}
+use Rattle.port.specs.declared.Operation.{Operation}
+use Rattle.port.specs.declared.Operation.the-variants.{Idle, Read, Write}
+use Rattle.port.specs.declared.Delivery.{Delivery}
+use Rattle.port.specs.declared.Delivery.the-variants.{None, Unready, Word}
+use Rattle.theory.proofs.Operations.{Op, idle, read, write, nil, unready, word}
+use Rattle.theory.proofs.Operations as operations
+use Rattle.theory.proofs.Concrete.{Config, Legal}
+
+-- a table of C rows is one of suc rest
+abbrev pub configOf : Setup → Config
+configOf s = record { banks = banksOf s; m = s .m; delay = s .delta; rest = s .c - 1; bank = λ c. c % banksOf s }
+
+pub legal : (s : Setup) → Ranges s → Legal (configOf s) (s .k)
+legal s r =
+    let l : 1 * 1 ≤ s .k * s .m = mul-le-mul (r .sizes .k-least) (r .sizes .m-least) in
+    record {
+      turns = r .sizes .m-least;
+      fits = r .delta-least;
+      delays = omega (arith, r .delta-least);
+      long = omega (arith, r .c-least);
+      within = λ a. mod-lt a (pow-pos (s .s));
+    }
+
+abbrev pub shownOp : Setup → Operation → Op ℕ
+shownOp s Idle = idle
+shownOp s (Read a) = read (cellOf s a .0)
+shownOp s (Write a w) = write (cellOf s a .0) w
+
+abbrev pub shownDelivery : Delivery → operations.Delivery ℕ
+shownDelivery None = nil
+shownDelivery Unready = unready
+shownDelivery (Word w) = word w

@@ -1,0 +1,422 @@
+-- Demand 2's promises, each under its own name: from `Tracks`, over every list of offered operations. Assumes nothing.
+use Prim.Native.Nat.{ℕ, suc, _+_, _-_, _%_, _^_, _<_, _≤_}
+use mathlib.Core.Path.{_≡_, refl, sym, ap, subst, _∙_}
+use mathlib.Core.Logic.{_⊎_, inl, inr, _↔_}
+use mathlib.Core.Bool.{Bool, true, false}
+use mathlib.Core.List.{List, [], _∷_, _++_, append-assoc}
+use native.Mathlib.Omega.{arith}
+use lib.Dec.{eqb}
+use lib.ListN.{length, getD, drop, length-append, length-map}
+use lib.Seq.{drop-at}
+use borrow.Author.Tests.{eqb-true, lt-ltb}
+use Rattle.answers.specs.Answers.{done, badAddress, dropped, stopping, stopped}
+use Rattle.setup.specs.Choice.{pick}
+use Rattle.setup.specs.declared.Setup.{Setup}
+use Rattle.setup.specs.declared.Checked.{Checked}
+use Rattle.setup.specs.declared.Checked.the-variants.{Good as InRange, Refused}
+use Rattle.setup.specs.Setup.{Ranges, banksOf, merging, withDefaults, checkedOf}
+use Rattle.map.specs.declared.Address.{Address}
+use Rattle.port.specs.declared.Operation.{Operation}
+use Rattle.port.specs.declared.Operation.the-variants.{Idle, Read, Write}
+use Rattle.port.specs.declared.Delivery.{Delivery}
+use Rattle.port.specs.declared.Delivery.the-variants.{None, Unready, Word}
+use Rattle.port.specs.declared.Reply.{Reply}
+use Rattle.model.specs.declared.State.{State}
+use Rattle.model.specs.declared.Cycled.{Cycled}
+use Rattle.model.specs.declared.Waiting.{Waiting}
+use Rattle.model.specs.Lent.{Lent, countOf}
+use Rattle.model.specs.Range.{Ready, lengthsOk, numbersOk}
+use Rattle.model.specs.Cycle.{passed}
+use Rattle.model.specs.Calls.{addressOk, refusalOf, refused, turnOf, cycleIn, cycleOf, told, questionOf, waitingIn, waitingOf}
+use Rattle.model.specs.Runs.{Machine, replyOf, replies, after, afterAll, fresh}
+use Rattle.model.specs.Ledger.{Ledger, ledger, freshLedger, waits, sram, serviced, due, retires, arrives, full, given, noted, replied, landed, entered}
+use Rattle.model.specs.Ledger as L
+use Rattle.model.specs.Promises.{Starts, reached, startWord, replyAt, promised, booked, ledgerAt, passing, historyFrom, history, Passes, retiringAt, arrivingAt, Emulates, ReadLeaves, NothingElse, NeverUnready, StopsExactly, DropsExactly, NeverBadState, TellsWaiting, RefusesWhole, StampsCycles, TurnsApart}
+use Rattle.theory.proofs.Concrete.{Legal, CSt, CRun, on, off, setup, reachedC}
+use Rattle.theory.proofs.Ledger.{Line, goes, stops, Goes, waiting, bookOf, reachedL}
+use Rattle.theory.proofs.Past.{past-long}
+use Rattle.theory.proofs.Port.{Matches, same-state, turn-position}
+use Rattle.model.proofs.Range.{ready-lengths, ready-numbers}
+use Rattle.model.proofs.Ready.{c-least-one}
+use Rattle.model.proofs.Calls.{checked-ranges}
+use Rattle.model.proofs.Starts.{starts-checked}
+use Rattle.model.proofs.Steps.{passed-answer, entered-past}
+use Rattle.model.proofs.Config.{configOf, legal, shownOp}
+use Rattle.model.proofs.Shown.{shown}
+use Rattle.model.proofs.Shows.{waiting-shown, on-shown}
+use Rattle.model.proofs.Booked.{booked-waits}
+use Rattle.model.proofs.Tracks.{Tracks, tracks-fresh, tracks-reply, tracks-after}
+
+------------------------------------------------------------------------
+-- Lists of calls
+
+module _ (g : Setup) (w₀ : Machine) (start : Starts g w₀) where
+  abbrev s : Setup
+  s = withDefaults g
+
+  abbrev words : Address → ℕ
+  words = startWord g w₀
+
+  tracks-all : (ops : List Operation) (w : Machine) (l : Ledger) → Tracks g w₀ w l → Tracks g w₀ (afterAll g ops w) (booked s words ops l)
+  unfolding afterAll booked
+  tracks-all [] w l k = k
+  tracks-all (op ∷ ops) w l k = tracks-all ops (after g op w) (entered s words op l .1) (tracks-after g w₀ start w l k op)
+
+  pub tracks-run : (ops : List Operation) → Tracks g w₀ (reached g w₀ ops) (ledgerAt g w₀ ops)
+  tracks-run ops = tracks-all ops (fresh g w₀) freshLedger (tracks-fresh g w₀ start)
+
+  -- each reply is the ledger's
+  pub reply-run : (ops : List Operation) (op : Operation) → replyAt g w₀ ops op ≡ entered s words op (ledgerAt g w₀ ops) .0
+  reply-run ops op = tracks-reply g w₀ start (reached g w₀ ops) (ledgerAt g w₀ ops) (tracks-run ops) op
+
+  replies-all : (ops : List Operation) (w : Machine) (l : Ledger) → Tracks g w₀ w l → replies g ops w ≡ promised s words ops l
+  unfolding replies promised
+  replies-all [] w l k = refl
+  replies-all (op ∷ ops) w l k =
+      rw (tracks-reply g w₀ start w l k op)
+      (ap (λ (r : List Reply). entered s words op l .0 ∷ r) (replies-all ops (after g op w) (entered s words op l .1) (tracks-after g w₀ start w l k op)))
+
+  -- the history read off the answers is the ledger's past
+  history-all : (ops : List Operation) (w : Machine) (l : Ledger) → Tracks g w₀ w l → historyFrom g ops w (l .past) ≡ booked s words ops l .past
+  unfolding historyFrom booked
+  history-all [] w l k = refl
+  history-all (op ∷ ops) w l k =
+      let p : passing (replyOf g op w .answer) op (l .past) ≡ entered s words op l .1 .past
+      = ap (λ (r : Reply). passing (r .answer) op (l .past)) (tracks-reply g w₀ start w l k op) ∙ sym (entered-past s words op l) in
+      ap (historyFrom g ops (after g op w)) p ∙ history-all ops (after g op w) (entered s words op l .1) (tracks-after g w₀ start w l k op)
+
+  pub history-run : (ops : List Operation) → history g w₀ ops ≡ ledgerAt g w₀ ops .past
+  history-run ops = history-all ops (fresh g w₀) freshLedger (tracks-fresh g w₀ start)
+
+  replies-run : (ops : List Operation) → replies g ops (fresh g w₀) ≡ promised s words ops freshLedger
+  replies-run ops = replies-all ops (fresh g w₀) freshLedger (tracks-fresh g w₀ start)
+
+pub emulates : Emulates
+emulates g w ops h = replies-run g w h ops
+
+------------------------------------------------------------------------
+-- One call of the ledger, by its tests
+
+-- what the tests for the stop mark, the address and the two places answer
+abbrev answerBy : Bool → Bool → Bool → Bool → ℕ
+answerBy h a r f = pick h stopped (pick a (pick r stopping (pick f dropped done)) badAddress)
+
+module _ (s : Setup) (start : Address → ℕ) (op : Operation) (l : Ledger) where
+  abbrev l₁ : Ledger
+  l₁ = serviced s l
+
+  abbrev l₂ : Ledger
+  l₂ = given (retires s l₁) l₁
+
+  abbrev d : Delivery
+  d = due start (drop (s .delta - 1) (l .past))
+
+  abbrev enteredBy : Bool → Bool → Bool → Bool → Reply × Ledger
+  enteredBy h a r f =
+      pick h (replied stopped None 0, l)
+      (pick a
+      (pick r (replied stopping d (length (l .past) % 2 ^ 32), ledger (l₁ .past) (l₁ .placed) (l₁ .served) true)
+      (pick f (replied dropped d (length (l .past) % 2 ^ 32), noted Idle l₂) (replied done d (length (l .past) % 2 ^ 32), noted op (given (arrives s op l₂) l₂))))
+      (replied badAddress None 0, l))
+
+  pub entered-tests : entered s start op l ≡ enteredBy (l .halted) (addressOk s op) (full s (retires s l₁) l₁) (full s (arrives s op l₂) l₂)
+  unfolding entered
+  entered-tests = refl
+
+  by-answer : (h a r f : Bool) → enteredBy h a r f .0 .answer ≡ answerBy h a r f
+  by-answer true a r f = refl
+  by-answer false false r f = refl
+  by-answer false true true f = refl
+  by-answer false true false true = refl
+  by-answer false true false false = refl
+
+  pub entered-answer : entered s start op l .0 .answer ≡ answerBy (l .halted) (addressOk s op) (full s (retires s l₁) l₁) (full s (arrives s op l₂) l₂)
+  entered-answer =
+      ap (λ (e : Reply × Ledger). e .0 .answer) entered-tests
+      ∙ by-answer (l .halted) (addressOk s op) (full s (retires s l₁) l₁) (full s (arrives s op l₂) l₂)
+
+  -- a call that reaches its cycle delivers what is due, with the cycle's stamp; any other none
+  Tells : Reply → Type 0
+  Tells r = (Passes (r .answer) × ((r .delivery ≡ d) × (r .stamp ≡ length (l .past) % 2 ^ 32))) ⊎ (((r .answer ≡ stopped) ⊎ (r .answer ≡ badAddress)) × (r .delivery ≡ None))
+
+  by-tells : (h a r f : Bool) → Tells (enteredBy h a r f .0)
+  unfolding Tells
+  by-tells true a r f = inr (inl refl, refl)
+  by-tells false false r f = inr (inr refl, refl)
+  by-tells false true true f = inl (inr (inr refl), (refl, refl))
+  by-tells false true false true = inl (inr (inl refl), (refl, refl))
+  by-tells false true false false = inl (inl refl, (refl, refl))
+
+  entered-tells : Tells (entered s start op l .0)
+  entered-tells =
+      subst (λ (e : Reply × Ledger). Tells (e .0)) (sym entered-tests) (by-tells (l .halted) (addressOk s op) (full s (retires s l₁) l₁) (full s (arrives s op l₂) l₂))
+
+stops-by : (h a r f : Bool) → (answerBy h a r f ≡ stopping) ↔ ((h ≡ false) × (a ≡ true) × (r ≡ true))
+stops-by true a r f = (λ e. absurd (omega arith), λ p. let z : _≡_ {A = ℕ} 0 1 = cc in absurd (omega arith))
+stops-by false false r f = (λ e. absurd (omega arith), λ p. let z : _≡_ {A = ℕ} 0 1 = cc in absurd (omega arith))
+stops-by false true true f = (λ e. (refl, refl, refl), λ p. refl)
+stops-by false true false true = (λ e. absurd (omega arith), λ p. let z : _≡_ {A = ℕ} 0 1 = cc in absurd (omega arith))
+stops-by false true false false = (λ e. absurd (omega arith), λ p. let z : _≡_ {A = ℕ} 0 1 = cc in absurd (omega arith))
+
+drops-by : (h a r f : Bool) → (answerBy h a r f ≡ dropped) ↔ ((h ≡ false) × (a ≡ true) × (r ≡ false) × (f ≡ true))
+drops-by true a r f = (λ e. absurd (omega arith), λ p. let z : _≡_ {A = ℕ} 0 1 = cc in absurd (omega arith))
+drops-by false false r f = (λ e. absurd (omega arith), λ p. let z : _≡_ {A = ℕ} 0 1 = cc in absurd (omega arith))
+drops-by false true true f = (λ e. absurd (omega arith), λ p. let z : _≡_ {A = ℕ} 0 1 = cc in absurd (omega arith))
+drops-by false true false true = (λ e. (refl, refl, refl, refl), λ p. refl)
+drops-by false true false false = (λ e. absurd (omega arith), λ p. let z : _≡_ {A = ℕ} 0 1 = cc in absurd (omega arith))
+
+------------------------------------------------------------------------
+-- Drops and stops
+
+module _ (g : Setup) (w : Machine) (ops : List Operation) (op : Operation) (h : Starts g w) where
+  abbrev l : Ledger
+  l = ledgerAt g w ops
+
+  answer-run : replyAt g w ops op .answer
+      ≡ answerBy (l .halted) (addressOk (withDefaults g) op)
+      (full (withDefaults g) (retires (withDefaults g) (retiringAt g w ops)) (retiringAt g w ops))
+      (full (withDefaults g) (arrives (withDefaults g) op (arrivingAt g w ops)) (arrivingAt g w ops))
+  answer-run = ap (λ (r : Reply). r .answer) (reply-run g w h ops op) ∙ entered-answer (withDefaults g) (startWord g w) op l
+
+  tells-run : Tells (withDefaults g) (startWord g w) op l (replyAt g w ops op)
+  tells-run = subst (Tells (withDefaults g) (startWord g w) op l) (sym (reply-run g w h ops op)) (entered-tells (withDefaults g) (startWord g w) op l)
+
+pub stops-exactly : StopsExactly
+stops-exactly g w ops op h =
+    rw (answer-run g w ops op h)
+    (stops-by _ _ _ (full (withDefaults g) (arrives (withDefaults g) op (arrivingAt g w ops)) (arrivingAt g w ops)))
+
+pub drops-exactly : DropsExactly
+drops-exactly g w ops op h = rw (answer-run g w ops op h) (drops-by _ _ _ _)
+
+------------------------------------------------------------------------
+-- What leaves
+
+pub nothing-else : NothingElse
+unfolding Tells
+nothing-else g w ops op h = go (tells-run g w ops op h)
+  where
+    go : Tells (withDefaults g) (startWord g w) op (ledgerAt g w ops) (replyAt g w ops op)
+        → (Passes (replyAt g w ops op .answer) × (replyAt g w ops op .delivery ≡ due (startWord g w) (drop (withDefaults g .delta - 1) (history g w ops))))
+        ⊎ (replyAt g w ops op .delivery ≡ None)
+    go (inl p) = inl (p .0, rw (history-run g w h ops) (p .1 .0))
+    go (inr p) = inr (p .1)
+
+due-ready : (start : Address → ℕ) (past : List Operation) → due start past ≡ Unready → ⊥
+due-ready start [] e = let z : _≡_ {A = ℕ} 0 1 = cc in absurd (omega arith)
+due-ready start (Idle ∷ past) e = let z : _≡_ {A = ℕ} 0 1 = cc in absurd (omega arith)
+due-ready start (Read a ∷ past) e = let z : _≡_ {A = ℕ} 0 1 = cc in absurd (omega arith)
+due-ready start (Write a v ∷ past) e = let z : _≡_ {A = ℕ} 0 1 = cc in absurd (omega arith)
+
+pub never-unready : NeverUnready
+unfolding Tells
+never-unready g w ops op h e = go (tells-run g w ops op h)
+  where
+    go : Tells (withDefaults g) (startWord g w) op (ledgerAt g w ops) (replyAt g w ops op) → ⊥
+    go (inl p) = due-ready (startWord g w) (drop (withDefaults g .delta - 1) (ledgerAt g w ops .past)) (sym (p .1 .0) ∙ e)
+    go (inr p) = let z : _≡_ {A = ℕ} 0 1 = cc (p .1) in absurd (omega arith)
+
+pub stamps-cycles : StampsCycles
+unfolding Tells
+stamps-cycles g w ops op h k = go (tells-run g w ops op h) k
+  where
+    go : Tells (withDefaults g) (startWord g w) op (ledgerAt g w ops) (replyAt g w ops op) → Passes (replyAt g w ops op .answer)
+        → replyAt g w ops op .stamp ≡ length (history g w ops) % 2 ^ 32
+    go (inl p) q = rw (history-run g w h ops) (p .1 .1)
+    go (inr (inl p, _)) (inl q) = absurd (omega arith)
+    go (inr (inl p, _)) (inr (inl q)) = absurd (omega arith)
+    go (inr (inl p, _)) (inr (inr q)) = absurd (omega arith)
+    go (inr (inr p, _)) (inl q) = absurd (omega arith)
+    go (inr (inr p, _)) (inr (inl q)) = absurd (omega arith)
+    go (inr (inr p, _)) (inr (inr q)) = absurd (omega arith)
+
+pub never-bad-state : NeverBadState
+unfolding Tells
+never-bad-state g w ops op h = go (tells-run g w ops op h)
+  where
+    go : Tells (withDefaults g) (startWord g w) op (ledgerAt g w ops) (replyAt g w ops op)
+        → Passes (replyAt g w ops op .answer) ⊎ ((replyAt g w ops op .answer ≡ badAddress) ⊎ (replyAt g w ops op .answer ≡ stopped))
+    go (inl p) = inl (p .0)
+    go (inr (inl p, _)) = inr (inr p)
+    go (inr (inr p, _)) = inr (inl p)
+
+-- past only grows, at its front
+module _ (s : Setup) (start : Address → ℕ) where
+  booked-append : (ops more : List Operation) (l : Ledger) → booked s start (ops ++ more) l ≡ booked s start more (booked s start ops l)
+  unfolding booked
+  booked-append [] more l = refl
+  booked-append (op ∷ ops) more l = booked-append ops more (entered s start op l .1)
+
+  Grown : List Operation → List Operation → Type 0
+  Grown past now = (extra : List Operation) × (now ≡ extra ++ past)
+
+  passing-grows : (n : ℕ) (op : Operation) (past : List Operation) → Grown past (passing n op past)
+  unfolding Grown
+  passing-grows n op past = go (eqb n done) (eqb n dropped)
+    where
+      go : (x y : Bool) → (extra : List Operation) × (pick x (op ∷ past) (pick y (Idle ∷ past) past) ≡ extra ++ past)
+      go true y = (op ∷ [], refl)
+      go false true = (Idle ∷ [], refl)
+      go false false = ([], refl)
+
+  booked-grows : (ops : List Operation) (l : Ledger) → Grown (l .past) (booked s start ops l .past)
+  unfolding booked Grown
+  booked-grows [] l = ([], refl)
+  booked-grows (op ∷ ops) l =
+      let p = passing-grows (entered s start op l .0 .answer) op (l .past) in
+      let q = booked-grows ops (entered s start op l .1) in
+      (q .0 ++ p .0, q .1 ∙ ap (λ (x : List Operation). q .0 ++ x) (entered-past s start op l ∙ p .1) ∙ sym (append-assoc (q .0) (p .0) (l .past)))
+
+due-behind : (start : Address → ℕ) (extra past : List Operation) (a : Address) (n : ℕ) → length extra ≡ n → due start (drop n (extra ++ Read a ∷ past)) ≡ Word (sram start past a)
+due-behind start extra past a n e = rw (drop-at extra (Read a ∷ past) n e)
+
+pub read-leaves : ReadLeaves
+unfolding Tells Grown booked
+read-leaves g w ops more a op h taken far k = go (tells-run g w (ops ++ Read a ∷ more) op h) k
+  where
+    s : Setup
+    s = withDefaults g
+
+    start : Address → ℕ
+    start = startWord g w
+
+    all : List Operation
+    all = ops ++ Read a ∷ more
+
+    l : Ledger
+    l = ledgerAt g w ops
+
+    -- the read is noted in front of its past
+    read-noted : entered (withDefaults g) (startWord g w) (Read a) (ledgerAt g w ops) .1 .past ≡ Read a ∷ ledgerAt g w ops .past
+    read-noted =
+        entered-past (withDefaults g) (startWord g w) (Read a) (ledgerAt g w ops)
+        ∙ ap (λ (r : Reply). passing (r .answer) (Read a) (ledgerAt g w ops .past)) (sym (reply-run g w h ops (Read a)))
+        ∙ ap (λ (n : ℕ). passing n (Read a) (ledgerAt g w ops .past)) taken
+
+    grown : (extra : List Operation) × (ledgerAt g w (ops ++ Read a ∷ more) .past ≡ extra ++ Read a ∷ ledgerAt g w ops .past)
+    grown =
+        let q = booked-grows (withDefaults g) (startWord g w) more (entered (withDefaults g) (startWord g w) (Read a) (ledgerAt g w ops) .1) in
+        (q .0, ap (λ (x : Ledger). x .past) (booked-append (withDefaults g) (startWord g w) ops (Read a ∷ more) freshLedger) ∙ q .1 ∙ ap (λ (x : List Operation). q .0 ++ x) read-noted)
+
+    -- as many cycles have passed since as make a delay, with its own
+    extra-long : length (grown .0) ≡ withDefaults g .delta - 1
+    extra-long =
+        let p : length (ledgerAt g w (ops ++ Read a ∷ more) .past) ≡ length (ledgerAt g w ops .past) + withDefaults g .delta
+        = ap length (sym (history-run g w h (ops ++ Read a ∷ more))) ∙ far ∙ ap (λ (x : List Operation). length x + withDefaults g .delta) (history-run g w h ops) in
+        let q : length (ledgerAt g w (ops ++ Read a ∷ more) .past) ≡ length (grown .0) + suc (length (ledgerAt g w ops .past))
+        = ap length (grown .1) ∙ length-append (grown .0) (Read a ∷ ledgerAt g w ops .past) in
+        omega arith
+
+    go : Tells (withDefaults g) (startWord g w) op (ledgerAt g w (ops ++ Read a ∷ more)) (replyAt g w (ops ++ Read a ∷ more) op)
+        → Passes (replyAt g w (ops ++ Read a ∷ more) op .answer)
+        → replyAt g w (ops ++ Read a ∷ more) op .delivery ≡ Word (sram (startWord g w) (history g w ops) a)
+    go (inl p) q =
+        p .1 .0
+        ∙ ap (λ (x : List Operation). due (startWord g w) (drop (withDefaults g .delta - 1) x)) (grown .1)
+        ∙ due-behind (startWord g w) (grown .0) (ledgerAt g w ops .past) a (withDefaults g .delta - 1) extra-long
+        ∙ ap (λ (x : List Operation). Word (sram (startWord g w) x a)) (sym (history-run g w h ops))
+    go (inr (inl p, _)) (inl q) = absurd (omega arith)
+    go (inr (inl p, _)) (inr (inl q)) = absurd (omega arith)
+    go (inr (inl p, _)) (inr (inr q)) = absurd (omega arith)
+    go (inr (inr p, _)) (inl q) = absurd (omega arith)
+    go (inr (inr p, _)) (inr (inl q)) = absurd (omega arith)
+    go (inr (inr p, _)) (inr (inr q)) = absurd (omega arith)
+
+------------------------------------------------------------------------
+-- The question, refusals, turn and position
+
+question-of : (s : Setup) (t : State) (b : ℕ) (x : Lent) → Ready s t x → b < banksOf s → questionOf s t b x ≡ told done (countOf (x .buffers .heads) b)
+unfolding questionOf
+question-of s t b x r h = rw (ready-lengths s t x r, ready-numbers s t x r, lt-ltb b (banksOf s) h)
+
+waiting-good : (g s : Setup) → checkedOf g ≡ InRange s → (t : State) (b : ℕ) (x : Lent) → waitingOf g t b x ≡ questionOf s t b x
+unfolding waitingIn
+waiting-good g s c t b x = ap (λ (k : Checked). waitingIn k t b x) c
+
+-- a buffer holds what the ledger counts, going or stopped
+buffer-holds : (m : Bool) (c : CSt ℕ) (y : Line ℕ) → Matches (pick m (off c) (on c)) y → (b : ℕ) → length (c .buf b) ≡ waiting (bookOf y) b
+buffer-holds true c (goes x) k b = absurd k
+buffer-holds true c (stops x) k b = k b
+buffer-holds false c (goes x) k b = k b
+buffer-holds false c (stops x) k b = absurd k
+
+pub tells-waiting : TellsWaiting
+tells-waiting g w ops b h l =
+    waiting-good g s (starts-checked g w h) (m .0) b (m .1)
+    ∙ question-of s (m .0) b (m .1) (k .ready) l
+    ∙ ap (told done) count
+  where
+    s : Setup
+    s = withDefaults g
+
+    m : Machine
+    m = reached g w ops
+
+    k : Tracks g w m (ledgerAt g w ops)
+    k = tracks-run g w h ops
+
+    fits : Legal (configOf s) (s .k)
+    fits = legal s (checked-ranges g s (starts-checked g w h))
+
+    y : Line ℕ
+    y = reachedL (merging s) (setup (configOf s)) (s .k) (k .ops)
+
+    count : countOf (m .1 .buffers .heads) b ≡ waits (ledgerAt g w ops) b
+    count =
+        sym (waiting-shown s (m .0) (m .1) b)
+        ∙ buffer-holds (m .0 .stopped) (shown s (m .0) (m .1)) y
+        (subst (λ (c : CRun ℕ). Matches c y) (sym (k .shows)) (same-state ℕ (merging s) (configOf s) (s .k) fits (λ c. getD (w .1 .memory) c 0) (k .ops))) b
+        ∙ sym (booked-waits s (ledgerAt g w ops) y (k .books) b l)
+
+refuses-in : (c : Checked) (t : State) (op : Operation) (x : Lent)
+    → Passes (cycleIn c t op x .0 .reply .answer) ⊎ (cycleIn c t op x ≡ refused (cycleIn c t op x .0 .reply .answer) t x)
+unfolding cycleIn turnOf
+refuses-in Refused t op x = inr refl
+refuses-in (InRange s) t op x = go (eqb (refusalOf s t op x) done)
+  where
+    go : (b : Bool) → Passes (pick b (passed s t op x) (refused (refusalOf s t op x) t x) .0 .reply .answer)
+        ⊎ (pick b (passed s t op x) (refused (refusalOf s t op x) t x) ≡ refused (pick b (passed s t op x) (refused (refusalOf s t op x) t x) .0 .reply .answer) t x)
+    go true = inl (passed-answer s t op x)
+    go false = inr refl
+
+pub refuses-whole : RefusesWhole
+refuses-whole g t op x = refuses-in (checkedOf g) t op x
+
+-- the turn and the position of what is reached are its cycle number's
+module _ (g : Setup) (w : Machine) (h : Starts g w) where
+  abbrev range : Ranges (withDefaults g)
+  range = checked-ranges g (withDefaults g) (starts-checked g w h)
+
+  turn-of : (m : Machine) (l : Ledger) → Tracks g w m l → m .0 .stopped ≡ false
+      → (m .0 .turn ≡ length (l .past) % withDefaults g .m) × (m .0 .position ≡ length (l .past) % withDefaults g .c)
+  turn-of m l k f = (p .0 ∙ ap (λ (n : ℕ). n % z .m) long, p .1 ∙ ap (λ (n : ℕ). n % suc (z .c - 1)) long ∙ ap (λ (n : ℕ). length (l .past) % n) whole)
+    where
+      z : Setup
+      z = withDefaults g
+
+      words : ℕ → ℕ
+      words c = getD (w .1 .memory) c 0
+
+      shows-on : reachedC (merging z) (configOf z) (z .k) words (k .ops) ≡ on (shown z (m .0) (m .1))
+      shows-on = sym (k .shows) ∙ on-shown z (m .0) (m .1) f
+
+      p : (m .0 .turn ≡ length (k .ops) % z .m) × (m .0 .position ≡ length (k .ops) % suc (z .c - 1))
+      p = turn-position ℕ (merging z) (configOf z) (z .k) (legal z range) words (k .ops) (shown z (m .0) (m .1)) shows-on
+
+      goes-on : (c : CRun ℕ) (y : Line ℕ) → c ≡ on (shown z (m .0) (m .1)) → Matches c y → Goes y
+      goes-on (on c) (goes y) e i = tt
+      goes-on (on c) (stops y) e i = i
+      goes-on (off c) y e i = let v : _≡_ {A = ℕ} 0 1 = cc in absurd (omega arith)
+
+      long : length (k .ops) ≡ length (l .past)
+      long =
+          sym (past-long (merging z) (setup (configOf z)) (z .k) (k .ops)
+          (goes-on _ _ shows-on (same-state ℕ (merging z) (configOf z) (z .k) (legal z range) words (k .ops))))
+          ∙ ap length (k .books .book .past)
+          ∙ length-map (l .past) (shownOp z)
+
+      whole : suc (z .c - 1) ≡ z .c
+      whole = omega (arith, c-least-one z range)
+
+pub turns-apart : TurnsApart
+turns-apart g w ops h f = rw (history-run g w h ops) (turn-of g w h (reached g w ops) (ledgerAt g w ops) (tracks-run g w h ops) f)

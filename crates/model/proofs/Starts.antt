@@ -1,0 +1,48 @@
+-- What a fresh start that answers 0 shows: the setup is in range, every length exact, and the machine fresh. Assumes nothing.
+use Prim.Native.Nat.{ℕ}
+use mathlib.Core.Path.{_≡_, refl, sym, ap, _∙_}
+use mathlib.Core.Bool.{Bool, true, false}
+use native.Mathlib.Omega.{arith}
+use Rattle.answers.specs.Answers.{done, badSetup, badLength}
+use Rattle.setup.specs.Choice.{pick}
+use Rattle.setup.specs.declared.Setup.{Setup}
+use Rattle.setup.specs.declared.Checked.{Checked}
+use Rattle.setup.specs.declared.Checked.the-variants.{Good as InRange, Refused}
+use Rattle.setup.specs.Setup.{inRange, withDefaults, checkedOf}
+use Rattle.model.specs.declared.State.{State}
+use Rattle.model.specs.declared.Started.{Started}
+use Rattle.model.specs.Lent.{Lent}
+use Rattle.model.specs.Range.{lengthsOk}
+use Rattle.model.specs.Calls.{started, freshState, freshLent, startOf, freshIn, freshOf}
+use Rattle.model.specs.Runs.{Machine, fresh}
+use Rattle.model.specs.Promises.{Starts}
+
+-- b is what the test of the ranges answers, d what that of the lengths
+module _ (s : Setup) (t : State) (x : Lent) where
+  by-range : (b : Bool) → freshIn (pick b (InRange s) Refused) t x .0 .answer ≡ done → b ≡ true
+  unfolding freshIn
+  by-range true h = refl
+  by-range false h = absurd (omega arith)
+
+  by-lengths : (d : Bool) → pick {A = Started × Lent} d (started done freshState, freshLent s x) (started badLength t, x) .0 .answer ≡ done → d ≡ true
+  by-lengths true h = refl
+  by-lengths false h = absurd (omega arith)
+
+module _ (g : Setup) (w : Machine) (h : Starts g w) where
+  in-range : inRange (withDefaults g) ≡ true
+  in-range = by-range (withDefaults g) (w .0) (w .1) (inRange (withDefaults g)) h
+
+  pub starts-checked : checkedOf g ≡ InRange (withDefaults g)
+  starts-checked = rw in-range
+
+  start-answer : startOf (withDefaults g) (w .0) (w .1) .0 .answer ≡ done
+  unfolding freshIn
+  start-answer = rw starts-checked at h
+
+  pub starts-lengths : lengthsOk (withDefaults g) (w .1) ≡ true
+  unfolding startOf
+  starts-lengths = by-lengths (withDefaults g) (w .0) (w .1) (lengthsOk (withDefaults g) (w .1)) start-answer
+
+  pub fresh-machine : fresh g w ≡ (freshState, freshLent (withDefaults g) (w .1))
+  unfolding freshIn startOf
+  fresh-machine = rw (starts-checked, starts-lengths)
