@@ -21,7 +21,7 @@ use Rattle.model.specs.Lent.{Lent, lent, buffersIn, countOf}
 use Rattle.model.specs.Cycle.{passed}
 use Rattle.model.specs.Range.{lengthsOk, numbersOk}
 use Rattle.model.specs.Calls.{started, freshState, startOf, freshIn, freshOf, addressOk, refusalOf, refusedBy, turnOf, cycleIn, cycleOf, told, questionOf, waitingIn, waitingOf}
-use Rattle.controller.specs.Known.{Exact}
+use Rattle.arrival.specs.Known.{Exact}
 
 ------------------------------------------------------------------------
 -- What the test of the lengths shows. b is what it answered

@@ -5,9 +5,10 @@ ghost use Prim.Native.Nat.{_*_};
 ghost use lib.ListN.{length, replicate};
 ghost use Rattle.setup.specs.Setup.{Ranges};
 ghost use Rattle.model.specs.Lent.{buffersIn, lent};
-ghost use Rattle.model.specs.Range.{lengthsOk, numbersOk};
+ghost use Rattle.model.specs.Cycle.{passed};
+ghost use Rattle.model.specs.Range.{lengthsOk, numbersOk, Ready};
 ghost use Rattle.model.specs.Calls.{addressOk, refusalOf, refusedBy, freshState, startOf, freshOf, turnOf, cycleOf, questionOf, waitingOf};
-ghost use Rattle.controller.specs.Known.{Exact};
+ghost use Rattle.arrival.specs.Known.{Exact};
 use model::Cycled;
 use model::Started;
 use model::State;
@@ -17,8 +18,6 @@ use port::Operation;
 use port::Reply;
 use setup::Checked;
 use setup::Setup;
-
-mod steps;
 
 // Whether every lent length is exact.
 fn lengths_ok(s: Setup, memory: &[u32], rows: &[u32], entries: &[u32], heads: &[u32]) -> bool
@@ -96,6 +95,23 @@ fn refuse(answer: u32, t: State) -> Cycled
     }
 }
 
+// A cycle of a machine that nothing refuses.
+fn pass(
+    s: Setup,
+    t: State,
+    op: Operation,
+    memory: &mut [u32],
+    rows: &mut [u32],
+    entries: &mut [u32],
+    heads: &mut [u32],
+) -> Cycled
+    requires { ⌜ Ready s t (lent (now memory) (now rows) (now entries) (now heads)) ⌝ }
+    ensures { λ r. ⌜ (r, lent (now (memory .exit)) (now (rows .exit)) (now (entries .exit)) (now (heads .exit))) ≡ passed s t op (lent (now (memory .entry)) (now (rows .entry)) (now (entries .entry)) (now (heads .entry))) ⌝ }
+{
+    service::serve(s, t.turn, memory, rows, entries, heads);
+    arrival::go_on(s, t, op, rows, entries, heads)
+}
+
 // A cycle under a setup in range.
 fn turn(
     s: Setup,
@@ -113,7 +129,7 @@ fn turn(
     if n != answers::DONE {
         return refuse(n, t);
     }
-    steps::pass(s, t, op, memory, rows, entries, heads)
+    pass(s, t, op, memory, rows, entries, heads)
 }
 
 // One cycle.

@@ -23,13 +23,13 @@ use Rattle.port.specs.declared.Reply.{Reply}
 use Rattle.model.specs.Calls.{addressOk}
 use Rattle.model.specs.Ledger.{Ledger, ledger, freshLedger, waits, serviced, due, Need, nowhere, at, retires, arrives, full, given, noted, replied, landed, passing, entered}
 use Rattle.model.proofs.Config.{configOf, shownOp, shownDelivery}
-use Rattle.model.proofs.Cells.{Below, Within, ok-below, within-drop, map-drop, due-owed}
+use Rattle.model.proofs.Cells.{Below, Within, ok-below, within-drop, map-drop, pick-cond, due-owed}
 use Rattle.model.proofs.Needs.{Asks, retires-leaving, arrives-asking}
 use Rattle.theory.proofs.Test.{same, lt, Says, is, isnt, same?, lt?, lt-true, same-eqb}
 use Rattle.theory.proofs.Operations.{Op, idle}
 use Rattle.theory.proofs.Operations as operations
 use Rattle.theory.proofs.Concrete.{setup}
-use Rattle.theory.proofs.Ledger.{Line, goes, stops, no, for, waiting, bookOf, servedL, retiredL, leaving, asking, free, answerL, cycleL, replyL, freshL, owedL}
+use Rattle.theory.proofs.Ledger.{Line, goes, stops, no, for, waiting, bookOf, servedL, leaving, asking, free, answerL, cycleL, replyL, freshL, owedL}
 use Rattle.theory.proofs.Ledger as theory
 
 -- what the theory knows of a setup but for its depth
@@ -69,10 +69,6 @@ booked-fresh s = record { book = record { past = refl; within = tt; placed = λ 
 
 ------------------------------------------------------------------------
 -- The steps of a cycle
-
-pick-cond : (t u : Bool) (x y : ℕ) → t ≡ u → pick t x y ≡ cond u x y
-pick-cond t true x y e = rw e
-pick-cond t false x y e = rw e
 
 -- one more served, where the turn has come and something waits
 serves : (turn turn′ : Bool) (w : ℕ) → turn ≡ turn′ → _≡_ {A = ℕ} (pick (turn && ltb 0 w) 1 0) (cond turn′ (cond (same w 0) 0 1) 0)
@@ -264,6 +260,7 @@ pub booked-call : (s : Setup) → Ranges s → (mem : ℕ → ℕ) (op : Operati
 booked-call s r mem op l (goes y) i k going ok =
     rw (entered-passes s (λ a. mem (cellOf s a .0)) op l going ok)
     (call-passing s (length (l .past) % 2 ^ 32) (due (λ a. mem (cellOf s a .0)) (drop (s .delta - 1) (l .past))) (owedL mem (drop (s .delta - 1) (y .past)))
-    (rw (i .book .past, ← (map-drop (shownOp s) (s .delta - 1) (l .past))) (due-owed s r mem (drop (s .delta - 1) (l .past)) (within-drop s (s .delta - 1) (l .past) (i .book .within))))
+    (rw (i .book .past, ← (map-drop (shownOp s) (s .delta - 1) (l .past)))
+    (due-owed s r mem (drop (s .delta - 1) (l .past)) (within-drop s (s .delta - 1) (l .past) (i .book .within))))
     r op (ok-below s op ok) l y going (i .book) k)
 booked-call s r mem op l (stops y) i k going ok = absurd (false≢true (sym going ∙ i .mark))

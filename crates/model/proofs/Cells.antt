@@ -1,6 +1,6 @@
 -- What a past says of an address is what the theory's past says of its cell: who wrote or touched it, its word, what is due. Assumes nothing.
 use Prim.Native.Nat.{ℕ, zero, suc, _<_}
-use mathlib.Core.Path.{_≡_, refl, sym, ap, _∙_}
+use mathlib.Core.Path.{_≡_, refl, ap, _∙_}
 use mathlib.Core.Bool.{Bool, true, false, cond, _||_}
 use mathlib.Core.List.{List, [], _∷_, map}
 use lib.Dec.{eqb}
@@ -11,7 +11,6 @@ use Rattle.setup.specs.Setup.{Ranges, wordsOf}
 use Rattle.setup.specs.declared.Setup.{Setup}
 use Rattle.map.specs.Map.{cellOf}
 use Rattle.map.specs.declared.Address.{Address}
-use Rattle.map.specs.declared.Cell.{Cell}
 use Rattle.map.proofs.OneToOne.{one-to-one}
 use Rattle.port.specs.declared.Operation.{Operation}
 use Rattle.port.specs.declared.Operation.the-variants.{Idle, Read, Write}
@@ -19,7 +18,7 @@ use Rattle.model.specs.Calls.{addressOk}
 use Rattle.model.specs.Ledger.{wrote, touched, some, written, sram, due}
 use Rattle.model.proofs.Config.{shownOp, shownDelivery}
 use Rattle.theory.proofs.Test.{same, Says, is, isnt, same?}
-use Rattle.theory.proofs.Operations.{Op, idle, upd, owed, word}
+use Rattle.theory.proofs.Operations.{Op, upd, word}
 use Rattle.theory.proofs.Ledger.{rewrites, touches, among, owedL}
 use Rattle.theory.proofs.Ledger as theory
 
@@ -51,6 +50,21 @@ map-drop f zero l = refl
 map-drop f (suc n) [] = refl
 map-drop f (suc n) (x ∷ l) = map-drop f n l
 
+------------------------------------------------------------------------
+-- Tests
+
+or-cond : (x y : Bool) → x || y ≡ cond x true y
+or-cond true y = refl
+or-cond false y = refl
+
+-- the same test decides both
+pub pick-cond : {A : Type 0} (t u : Bool) (x y : A) → t ≡ u → pick t x y ≡ cond u x y
+pick-cond t true x y e = rw e
+pick-cond t false x y e = rw e
+
+------------------------------------------------------------------------
+-- Cells
+
 module _ (s : Setup) (r : Ranges s) where
   -- the map is one to one, so comparing addresses is comparing cells
   pub same-cell : (x y : Address) → x .0 < wordsOf s → y .0 < wordsOf s → eqb (y .0) (x .0) ≡ same (cellOf s y .0) (cellOf s x .0)
@@ -76,10 +90,6 @@ module _ (s : Setup) (r : Ranges s) where
     touched-touches (Read x) h = same-cell a x l h
     touched-touches (Write x w) h = same-cell a x l h
 
-  or-cond : (x y : Bool) → x || y ≡ cond x true y
-  or-cond true y = refl
-  or-cond false y = refl
-
   some-among : (f : Operation → Bool) (f′ : Op ℕ → Bool) → ((o : Operation) → Below s o → f o ≡ f′ (shownOp s o))
       → (n : ℕ) (past : List Operation) → Within s past → some f (take n past) ≡ among f′ n (map (shownOp s) past)
   some-among f f′ e zero past h = refl
@@ -96,10 +106,6 @@ module _ (s : Setup) (r : Ranges s) where
 
   ----------------------------------------------------------------------
   -- The ideal SRAM, which starts with, at each address, the word of its cell
-
-  pick-cond : (t u : Bool) (w v : ℕ) → t ≡ u → pick t w v ≡ cond u w v
-  pick-cond t true w v e = rw e
-  pick-cond t false w v e = rw e
 
   module _ (mem : ℕ → ℕ) where
     written-upd : (o : Operation) → Below s o → (a : Address) → a .0 < wordsOf s → (v : ℕ) → written o a v ≡ upd (cellOf s a .0) (shownOp s o) v

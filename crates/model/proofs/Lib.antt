@@ -25,3 +25,7 @@ pub mod Starts
 pub mod Steps
 pub mod Tracks
 pub mod Signed
+pub mod BookedRuns
+pub mod WritesKept
+pub mod Deepened
+pub mod Depths

@@ -1,14 +1,9 @@
 -- What retires and what arrives needs a place at the same bank by address as by cell, and lacks it alike. Assumes nothing.
-use Prim.Native.Nat.{ℕ, zero, suc, _+_, _-_, _%_, _≤_, _<_}
-use native.Mathlib.Nat.{mod-lt}
-use native.Mathlib.Omega.{arith}
-use mathlib.Core.Path.{_≡_, refl, sym, ap, _∙_}
-use mathlib.Core.Bool.{Bool, true, false, not, cond, _&&_}
+use Prim.Native.Nat.{ℕ, zero, suc, _-_, _%_, _<_}
+use mathlib.Core.Path.{_≡_, refl}
+use mathlib.Core.Bool.{Bool, true, false, cond, _&&_}
 use mathlib.Core.List.{List, [], _∷_, map}
-use lib.Dec.{eqb}
 use lib.ListN.{getD, take, drop}
-use lib.Pow.{pow-pos}
-use borrow.Author.Tests.{eq-eqb, ne-eqb}
 use Rattle.setup.specs.Choice.{pick}
 use Rattle.setup.specs.Setup.{Ranges, banksOf, wordsOf, merging}
 use Rattle.setup.specs.declared.Setup.{Setup}
@@ -16,10 +11,9 @@ use Rattle.map.specs.Map.{cellOf}
 use Rattle.map.specs.declared.Address.{Address}
 use Rattle.port.specs.declared.Operation.{Operation}
 use Rattle.port.specs.declared.Operation.the-variants.{Idle, Read, Write}
-use Rattle.model.specs.Ledger.{Ledger, Need, nowhere, at, bankAt, wrote, touched, some, retiring, retires, arrives}
+use Rattle.model.specs.Ledger.{Ledger, Need, nowhere, at, bankAt, wrote, touched, some, retiring, arrives}
 use Rattle.model.proofs.Config.{configOf, shownOp}
 use Rattle.model.proofs.Cells.{Below, Within, some-wrote, some-touched}
-use Rattle.theory.proofs.Test.{lt, Says, is, isnt, lt?}
 use Rattle.theory.proofs.Operations.{Op, idle}
 use Rattle.theory.proofs.Concrete.{setup}
 use Rattle.theory.proofs.Ledger.{no, for, rewrites, touches, among, leaves, leaving, asking}

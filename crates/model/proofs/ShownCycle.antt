@@ -37,7 +37,7 @@ use Rattle.model.proofs.ShownPlaces.{onward-shown, ago-shown}
 use Rattle.model.proofs.ShownRows.{by-kind, ofKind, row-out, tab-at, tab-put, shownFound, isFound, newer-shown, look-shown, scan-holds}
 use Rattle.model.proofs.ShownBuffers.{room-shown, full-shown, placed-shown}
 use Rattle.theory.proofs.Operations.{read, write}
-use Rattle.theory.proofs.Machine.{none, put, wr, only, needs, out, echo, merge}
+use Rattle.theory.proofs.Machine.{none, put, wr, Plan, only, needs, out, echo, merge}
 use Rattle.theory.proofs.Machine as machine
 use Rattle.theory.proofs.Concrete.{CSt, CKept, kept, full, CLanded, deliverC, pushC, shedC, roomC, retireRowC, retireC, noteC, seatC, landC, arriveC}
 use Rattle.theory.proofs.Concrete as concrete
@@ -58,7 +58,7 @@ delivery-shown s t x g h =
 -- An entry is placed
 
 module _ (s : Setup) (t : State) (x : Lent) (g : Good s x) (e : Entry) where
-  -- where there is room, and where K wait
+  -- where fewer than K wait, it goes behind the last
   push-shown : (countOf (x .buffers .heads) (bankOf s (e .cell)) ≡ s .k → ⊥)
       → pushC (bankOf s (e .cell)) (shownEntry e) (shown s t x) ≡ shown s t (withBuffers (placedAt s (bankOf s (e .cell)) e (x .buffers)) x)
   push-shown n =
@@ -71,7 +71,6 @@ module _ (s : Setup) (t : State) (x : Lent) (g : Good s x) (e : Entry) where
       refl
       refl
 
-  -- whether there is room
   room-free : (countOf (x .buffers .heads) (bankOf s (e .cell)) ≡ s .k → ⊥) → roomC (s .k) (bankOf s (e .cell)) (shown s t x) ≡ true
   room-free n =
       let b : ℕ = bankOf s (e .cell) in
@@ -170,6 +169,17 @@ shownLanded s t x w = record { taken = w .0; st = shown s (nextState s t) (withA
 abbrev landed : Bool → CSt ℕ → CLanded ℕ
 landed b c = record { taken = b; st = c }
 
+module _ (s : Setup) (t : State) (x : Lent) where
+  -- a plan carried out there; what a read of a plans, by the row that it finds and by what the lookup finds
+  abbrev land : Plan ℕ → CLanded ℕ
+  land p = landC (configOf s) (s .k) p (shown s t x)
+
+  abbrev echoed : Address → machine.Row ℕ → Plan ℕ
+  echoed a r = echo (bankOf s (cellOf s a)) (t .position) (cellOf s a .0) r
+
+  abbrev merged : Address → machine.Found → Plan ℕ
+  merged a f = merge (bankOf s (cellOf s a)) (t .position) (cellOf s a .0) (λ p. getD (shownTab s (x .rows)) p none) f
+
 module _ (s : Setup) (t : State) (turn : t .turn < s .m) (h : t .position < s .c) where
   -- the row of this cycle is filled, and the next cycle begins
   note-shown : (x : Lent) → GoodRows s (x .rows) → (r : Row)
@@ -184,13 +194,11 @@ module _ (s : Setup) (t : State) (turn : t .turn < s .m) (h : t .position < s .c
       (ap (λ (c : ℕ). concrete.onward c (t .position)) n ∙ onward-shown (s .c) (t .position) h)
 
   module _ (x : Lent) (g : Good s x) where
-    only-shown : (r : Row)
-        → landC (configOf s) (s .k) (only (shownRow s r)) (shown s t x)
-        ≡ shownLanded s t x (noted (t .position) r (x .rows) (x .buffers))
+    only-shown : (r : Row) → land s t x (only (shownRow s r)) ≡ shownLanded s t x (noted (t .position) r (x .rows) (x .buffers))
     only-shown r = ap (landed true) (note-shown x (good-rows s x g) r)
 
     seat-shown : (e : Entry) (r : Row)
-        → landC (configOf s) (s .k) (needs (bankOf s (e .cell)) (shownEntry e) (shownRow s r)) (shown s t x)
+        → land s t x (needs (bankOf s (e .cell)) (shownEntry e) (shownRow s r))
         ≡ shownLanded s t x (seated (t .position) r (x .rows) (placed s e (x .buffers)))
     seat-shown e r =
         let b : ℕ = bankOf s (e .cell) in
@@ -206,12 +214,12 @@ module _ (s : Setup) (t : State) (turn : t .turn < s .m) (h : t .position < s .c
 
     -- a read that finds the row r live
     echo-shown : (a : Address) (r : Row) → r .kind ≤ waitingKind → isOf a r ≡ true
-        → landC (configOf s) (s .k) (echo (bankOf s (cellOf s a)) (t .position) (cellOf s a .0) (shownRow s r)) (shown s t x)
+        → land s t x (echoed s t x a (shownRow s r))
         ≡ shownLanded s t x (noted (t .position) (joined a r) (x .rows) (x .buffers))
     echo-shown a r =
         by-kind
         (λ (k : ℕ). isOf a (ofKind r k) ≡ true
-        → landC (configOf s) (s .k) (echo (bankOf s (cellOf s a)) (t .position) (cellOf s a .0) (shownRow s (ofKind r k))) (shown s t x)
+        → land s t x (echoed s t x a (shownRow s (ofKind r k)))
         ≡ shownLanded s t x (noted (t .position) (joined a (ofKind r k)) (x .rows) (x .buffers)))
         (λ e. absurd (false≢true e))
         (λ e. only-shown (rowWith readKind (a .0) (r .word) 0))
@@ -220,11 +228,11 @@ module _ (s : Setup) (t : State) (turn : t .turn < s .m) (h : t .position < s .c
         (r .kind)
 
     merge-shown : (a : Address) (f : Found) → ((i : ℕ) → f ≡ At i → (i < s .c) × (isOf a (rowAt (x .rows) i) ≡ true))
-        → landC (configOf s) (s .k) (merge (bankOf s (cellOf s a)) (t .position) (cellOf s a .0) (λ p. getD (shownTab s (x .rows)) p none) (shownFound f)) (shown s t x)
+        → land s t x (merged s t x a (shownFound f))
         ≡ shownLanded s t x (readMerged s (t .position) a f (x .rows) (x .buffers))
     merge-shown a (At i) n =
         let l : i < s .c = n i refl .0 in
-        ap (λ (r : machine.Row ℕ). landC (configOf s) (s .k) (echo (bankOf s (cellOf s a)) (t .position) (cellOf s a .0) r) (shown s t x)) (tab-at s (x .rows) i l)
+        ap (λ (r : machine.Row ℕ). land s t x (echoed s t x a r)) (tab-at s (x .rows) i l)
         ∙ echo-shown a (rowAt (x .rows) i) (row-kind (wordsOf s) (s .c) (rowAt (x .rows) i) (g .rows-ok i l)) (n i refl .1)
     merge-shown a Nothing n = seat-shown (readOf s (t .position) a) (rowWith waitingKind (a .0) 0 (t .position))
 
@@ -233,7 +241,7 @@ module _ (s : Setup) (t : State) (turn : t .turn < s .m) (h : t .position < s .c
         ≡ shownLanded s t x
         (pick m (readMerged s (t .position) a (newestLive s (t .position) a (x .rows)) (x .rows) (x .buffers)) (readPlaced s (t .position) a (x .rows) (x .buffers)))
     read-shown a l true =
-        ap (λ (f : machine.Found). landC (configOf s) (s .k) (merge (bankOf s (cellOf s a)) (t .position) (cellOf s a .0) (λ p. getD (shownTab s (x .rows)) p none) f) (shown s t x))
+        ap (λ (f : machine.Found). land s t x (merged s t x a f))
         (look-shown s (g .ranges) a l (x .rows) (good-rows s x g) (s .c - 1) (t .position) h)
         ∙ merge-shown a (newestLive s (t .position) a (x .rows))
         (λ i e. (scan-below (isOf a) (s .c) (x .rows) (s .c - 1) (t .position) h e, scan-holds (isOf a) (s .c) (x .rows) (s .c - 1) (t .position) e))

@@ -1,12 +1,10 @@
--- Setups, places that go round and cells are the same to the machine by position. Assumes nothing.
-use Prim.Native.Nat.{ℕ, zero, suc, _+_, _-_, _*_, _≤_, _<_}
-use native.Mathlib.Nat.{mod-lt, mul-le-mul}
+-- Places that go round, and cells, are the same to the machine by position. Assumes nothing.
+use Prim.Native.Nat.{ℕ, zero, suc, _+_, _-_, _≤_, _<_}
 use native.Mathlib.Omega.{arith}
 use mathlib.Core.Path.{_≡_, sym, ap}
 use mathlib.Core.Logic.{_⊎_, inl, inr}
 use mathlib.Core.Bool.{Bool, cond}
 use lib.Dec.{eqb}
-use lib.Pow.{pow-pos}
 use borrow.Author.Tests.{eq-eqb, ne-eqb}
 use Rattle.setup.specs.Setup.{Ranges, wordsOf}
 use Rattle.setup.specs.declared.Setup.{Setup}
@@ -15,25 +13,10 @@ use Rattle.map.specs.declared.Address.{Address}
 use Rattle.map.proofs.OneToOne.{one-to-one}
 use Rattle.model.specs.Lent.{onward, back}
 use Rattle.model.proofs.Rings.{onward-either, back-straight, back-round}
-use Rattle.model.proofs.Config.{configOf}
 use Rattle.theory.proofs.Test.{same, lt, Says, is, isnt, same?, lt?}
 use Rattle.theory.proofs.Table as table
-use Rattle.theory.proofs.Concrete.{Legal, ago}
+use Rattle.theory.proofs.Concrete.{ago}
 use Rattle.theory.proofs.Concrete as concrete
-
-------------------------------------------------------------------------
--- Setups
-
-pub config-legal : (s : Setup) → Ranges s → Legal (configOf s) (s .k)
-config-legal s r =
-    let l : 1 * 1 ≤ s .k * s .m = mul-le-mul (r .sizes .k-least) (r .sizes .m-least) in
-    record {
-      turns = r .sizes .m-least;
-      fits = r .delta-least;
-      delays = omega (arith, r .delta-least);
-      long = omega (arith, r .c-least);
-      within = λ a. mod-lt a (pow-pos (s .s));
-    }
 
 ------------------------------------------------------------------------
 -- Places that go round

@@ -95,7 +95,6 @@ module _ (s : Setup) (t : State) (b : ℕ) (x : Lent) (g : Good s x) (h : b < ba
       ≡ shown s t (withCarried (withPopped s b (x .buffers)) (carried s (oldestEntry s b (x .buffers)) (x .memory, x .rows)))
   bank-some n =
       let e : Entry = oldestEntry s b (x .buffers) in
-      let w : List ℕ × List ℕ = carried s e (x .memory, x .rows) in
       let f = shown-first s (x .buffers) (good-buffers s x g) b h n in
       same-machine
       (popped-shown s (x .buffers) (good-buffers s x g) b h)

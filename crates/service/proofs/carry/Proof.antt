@@ -1,0 +1,54 @@
+-- `service::carry` meets its contract: a write is stored, and a read's word fills its rows. Assumes nothing.
+use Rattle.service.proofs.Ways.{carry-write, carry-read}
+use borrow.Author.Needs.{needs}
+use Rattle.service.proofs.carry.Statement.{statement}
+use Rattle.service.proofs.carry.Tie as tie
+
+cast-at : tie.Need-cast-at
+cast-at c = search needs
+
+mul-memory : tie.Need-mul-memory
+mul-memory c = search needs
+
+slice-write-memory : tie.Need-slice-write-memory
+slice-write-memory c = search needs
+
+same-length : tie.Need-same-length
+same-length c = search needs
+
+returns : tie.Need-returns
+returns c = search (carry-write)
+
+mul-word : tie.Need-mul-word
+mul-word c = search needs
+
+slice-read-word : tie.Need-slice-read-word
+slice-read-word c = search needs
+
+cast-fill : tie.Need-cast-fill
+cast-fill c = search needs
+
+fill-requires : tie.Need-fill-requires
+fill-requires c κs = search needs
+
+same-length-2 : tie.Need-same-length-2
+same-length-2 c = search needs
+
+returns-2 : tie.Need-returns-2
+returns-2 c = search (carry-read)
+
+pub carry-spec : {M : Type 1} → statement M
+carry-spec =
+    tie.close
+    (tie.spec
+    cast-at
+    mul-memory
+    slice-write-memory
+    same-length
+    returns
+    mul-word
+    slice-read-word
+    cast-fill
+    fill-requires
+    same-length-2
+    returns-2)
