@@ -22,22 +22,12 @@ use Rattle.port.specs.declared.Delivery.{Delivery}
 use Rattle.port.specs.declared.Reply.{Reply}
 use Rattle.model.specs.Calls.{addressOk}
 use Rattle.model.specs.Ledger.{Ledger, waits, wrote, touched, some, serviced, due, Need, nowhere, at, bankAt, retiring, retires, arrives, full, given, landed, passing, entered}
+use Rattle.model.specs.Depths.{Deeper}
 use Rattle.model.proofs.Tests.{pick-good}
 use Rattle.model.proofs.Booked.{entered-halted, entered-refused, entered-passes}
 
 ------------------------------------------------------------------------
 -- Two setups that differ in depth alone
-
-pub record Deeper (s₁ s₂ : Setup) : Type 0 where
-  pub mode : s₁ .mode ≡ s₂ .mode
-  pub a : s₁ .a ≡ s₂ .a
-  pub s : s₁ .s ≡ s₂ .s
-  pub m : s₁ .m ≡ s₂ .m
-  pub k : s₁ .k ≤ s₂ .k
-  pub delta : s₁ .delta ≡ s₂ .delta
-  pub c : s₁ .c ≡ s₂ .c
-  pub u : s₁ .u ≡ s₂ .u
-  pub v : s₁ .v ≡ s₂ .v
 
 -- d places more in each buffer
 abbrev pub deepened : Setup → ℕ → Setup

@@ -26,12 +26,13 @@ use Rattle.port.specs.declared.Reply.{Reply}
 use Rattle.model.specs.Calls.{addressOk}
 use Rattle.model.specs.Ledger.{Ledger, sram, entered}
 use Rattle.model.specs.Promises.{promised, booked}
+use Rattle.model.specs.Depths.{Deeper, WritesKept, NoneLost}
 use Rattle.model.proofs.Config.{configOf, shownOp, shownDelivery}
 use Rattle.model.proofs.Cells.{ok-below, sram-cell}
 use Rattle.model.proofs.BookedRuns.{startFrom, ledgerFrom, replyFrom, repliesFrom, booked-last, entered-reaches, shownOps, lineOf, shown-append}
 use Rattle.model.proofs.BookedRuns.{booked-from, waits-most, call-from, answer-from, taken-from, going-line, line-going, cycles-from}
-use Rattle.model.proofs.WritesKept.{WritesKept, none-dropped}
-use Rattle.model.proofs.Deepened.{Deeper, deepened, deeper-deepened, alike-entered, gives-alike, same-ok}
+use Rattle.model.proofs.WritesKept.{none-dropped}
+use Rattle.model.proofs.Deepened.{deepened, deeper-deepened, alike-entered, gives-alike, same-ok}
 use Rattle.theory.proofs.Operations.{Op, read, word}
 use Rattle.theory.proofs.Concrete.{setup}
 use Rattle.theory.proofs.Ledger.{Goes, pastOf, givesL, reachedL}
@@ -40,11 +41,6 @@ use Rattle.theory.proofs.Depths as depths
 
 ------------------------------------------------------------------------
 -- Until the shallower first drops or stops, the two are one
-
--- none was dropped, and none stopped the machine
-abbrev pub NoneLost : List Reply → Type 0
-NoneLost [] = Unit {0}
-NoneLost (r ∷ rs) = (r .answer ≢ dropped) × (r .answer ≢ stopping) × NoneLost rs
 
 module _ (s : Setup) (d : ℕ) (mem : ℕ → ℕ) where
   -- the same map, so the same starting words

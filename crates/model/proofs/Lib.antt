@@ -29,3 +29,5 @@ pub mod BookedRuns
 pub mod WritesKept
 pub mod Deepened
 pub mod Depths
+pub mod SignedDepths
+pub mod Examples

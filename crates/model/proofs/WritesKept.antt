@@ -19,6 +19,7 @@ use Rattle.port.specs.declared.Reply.{Reply}
 use Rattle.model.specs.Calls.{addressOk}
 use Rattle.model.specs.Ledger.{Ledger, wrote, serviced, due, retires, full, given, landed, entered}
 use Rattle.model.specs.Promises.{promised, booked}
+use Rattle.model.specs.Depths.{WritesKept}
 use Rattle.model.proofs.Tests.{pick-good}
 use Rattle.model.proofs.Config.{configOf, shownOp}
 use Rattle.model.proofs.Cells.{ok-below, wrote-rewrites}
@@ -28,12 +29,6 @@ use Rattle.theory.proofs.Operations.{Op, write}
 use Rattle.theory.proofs.Concrete.{setup}
 use Rattle.theory.proofs.Ledger.{answerL}
 use Rattle.theory.proofs.Depths.{NoneDropped}
-
--- of these operations and their replies
-abbrev pub WritesKept : Address → List Operation → List Reply → Type 0
-WritesKept a [] rs = Unit {0}
-WritesKept a (op ∷ ops) [] = Unit {0}
-WritesKept a (op ∷ ops) (r ∷ rs) = (wrote a op ≡ true → r .answer ≢ dropped) × WritesKept a ops rs
 
 ------------------------------------------------------------------------
 -- By address and by cell

@@ -5,3 +5,5 @@ pub mod Calls
 pub mod Runs
 pub mod Ledger
 pub mod Promises
+pub mod Depths
+pub mod Examples

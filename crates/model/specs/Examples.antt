@@ -1,0 +1,78 @@
+-- Small runs, computed: that memory and ideal SRAM may differ, and why demand 3 has its hypotheses.
+use Prim.Native.Nat.{ℕ, _*_}
+use mathlib.Core.Path.{_≡_}
+use mathlib.Core.List.{List, [], _∷_, map}
+use lib.ListN.{getD, take, replicate}
+use Rattle.setup.specs.Setup.{withDefaults, wordsOf, banksOf}
+use Rattle.setup.specs.declared.Setup.{Setup}
+use Rattle.port.specs.declared.Operation.{Operation}
+use Rattle.port.specs.declared.Operation.the-variants.{Idle, Read, Write}
+use Rattle.port.specs.declared.Delivery.{Delivery}
+use Rattle.port.specs.declared.Delivery.the-variants.{None, Word}
+use Rattle.port.specs.declared.Reply.{Reply}
+use Rattle.model.specs.Lent.{lent}
+use Rattle.model.specs.Calls.{freshState}
+use Rattle.model.specs.Runs.{Machine, replies, fresh}
+use Rattle.model.specs.Ledger.{sram}
+use Rattle.model.specs.Promises.{reached, startWord, history}
+
+-- rooms of zeros for a setup
+abbrev pub zeros : Setup → Machine
+zeros g =
+    let s = withDefaults g in
+    (freshState, lent (replicate (wordsOf s) 0) (replicate (4 * s .c) 0) (replicate (4 * (banksOf s * s .k)) 0) (replicate (2 * banksOf s) 0))
+
+-- the answers and deliveries of a run over them
+abbrev pub heard : Setup → List Operation → List (ℕ × Delivery)
+heard g ops = map {B = ℕ × Delivery} (λ (r : Reply). (r .answer, r .delivery)) (replies g ops (fresh g (zeros g)))
+
+abbrev pub read : ℕ → Operation
+read a = Read (record { 0 = a })
+
+abbrev pub write : ℕ → ℕ → Operation
+write a w = Write (record { 0 = a }) w
+
+-- the memory word at cell c after each of the first cycles, and the ideal SRAM's at address a
+abbrev pub memories : Setup → List Operation → ℕ → List ℕ → List ℕ
+memories g ops c cycles = map (λ (n : ℕ). getD (reached g (zeros g) (take n ops) .1 .memory) c 0) cycles
+
+abbrev pub ideals : Setup → List Operation → ℕ → List ℕ → List ℕ
+ideals g ops a cycles = map (λ (n : ℕ). sram (startWord g (zeros g)) (history g (zeros g) (take n ops)) (record { 0 = a })) cycles
+
+------------------------------------------------------------------------
+-- P7: the memory lags behind the ideal SRAM, and never holds 5; every word handed out agrees all the same
+
+abbrev pub p7 : Setup
+p7 = record { mode = 1; a = 1; s = 0; m = 1; k = 1; delta = 1; c = 2; u = 1; v = 0 }
+
+abbrev pub twice : List Operation
+twice = write 0 5 ∷ write 0 6 ∷ Idle ∷ Idle ∷ Idle ∷ []
+
+abbrev pub MemoryLags : Type 0
+MemoryLags =
+    (memories p7 twice 0 (1 ∷ 2 ∷ 3 ∷ 4 ∷ 5 ∷ []) ≡ 0 ∷ 0 ∷ 0 ∷ 0 ∷ 6 ∷ [])
+    × (ideals p7 twice 0 (1 ∷ 2 ∷ 3 ∷ 4 ∷ 5 ∷ []) ≡ 5 ∷ 6 ∷ 6 ∷ 6 ∷ 6 ∷ [])
+
+------------------------------------------------------------------------
+-- Two depths: one bank served in every second cycle, Δ = C = 4, one place against two
+
+abbrev pub depth : (mode k : ℕ) → Setup
+depth mode k = record { mode = mode; a = 1; s = 0; m = 2; k = k; delta = 4; c = 4; u = 1; v = 0 }
+
+-- plain: where an earlier write was dropped the words differ
+abbrev pub rewritten : List Operation
+rewritten = write 0 1 ∷ write 0 2 ∷ read 0 ∷ Idle ∷ Idle ∷ Idle ∷ Idle ∷ []
+
+abbrev pub DroppedWriteTells : Type 0
+DroppedWriteTells =
+    (heard (depth 0 1) rewritten ≡ (0, None) ∷ (5, None) ∷ (0, None) ∷ (0, None) ∷ (0, None) ∷ (0, None) ∷ (0, Word 1) ∷ [])
+    × (heard (depth 0 2) rewritten ≡ (0, None) ∷ (0, None) ∷ (0, None) ∷ (0, None) ∷ (0, None) ∷ (0, None) ∷ (0, Word 2) ∷ [])
+
+-- merging: after the first drop the deliveries differ
+abbrev pub reread : List Operation
+reread = read 0 ∷ read 1 ∷ Idle ∷ Idle ∷ Idle ∷ Idle ∷ []
+
+abbrev pub DroppedReadTells : Type 0
+DroppedReadTells =
+    (heard (depth 1 1) reread ≡ (0, None) ∷ (5, None) ∷ (0, None) ∷ (0, None) ∷ (0, Word 0) ∷ (0, None) ∷ [])
+    × (heard (depth 1 2) reread ≡ (0, None) ∷ (0, None) ∷ (0, None) ∷ (0, None) ∷ (0, Word 0) ∷ (0, Word 0) ∷ [])
