@@ -14,6 +14,10 @@ cellOf s x = record { 0 = (s .u * x .0 + s .v) % wordsOf s }
 abbrev pub bankOf : Setup → Cell → ℕ
 bankOf s x = x .0 % banksOf s
 
+-- the bank of an address
+abbrev pub bankAt : Setup → Address → ℕ
+bankAt s x = bankOf s (cellOf s x)
+
 -- the remaining bits name the row inside it
 abbrev pub rowOf : Setup → Cell → ℕ
 rowOf s x = x .0 / banksOf s

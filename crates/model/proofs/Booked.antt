@@ -21,7 +21,8 @@ use Rattle.port.specs.declared.Delivery.{Delivery}
 use Rattle.port.specs.declared.Delivery.the-variants.{None}
 use Rattle.port.specs.declared.Reply.{Reply}
 use Rattle.model.specs.Calls.{addressOk}
-use Rattle.model.specs.Ledger.{Ledger, ledger, freshLedger, waits, serviced, due, Need, nowhere, at, retires, arrives, full, given, noted, replied, landed, passing, entered}
+use Rattle.model.specs.Sram.{due}
+use Rattle.model.specs.Ledger.{Ledger, ledger, freshLedger, waits, serviced, Need, nowhere, at, retires, arrives, full, given, noted, replied, landed, passing, entered}
 use Rattle.model.proofs.Config.{configOf, shownOp, shownDelivery}
 use Rattle.model.proofs.Cells.{Below, Within, ok-below, within-drop, map-drop, pick-cond, due-owed}
 use Rattle.model.proofs.Needs.{Asks, retires-leaving, arrives-asking}

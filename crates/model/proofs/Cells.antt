@@ -15,7 +15,7 @@ use Rattle.map.proofs.OneToOne.{one-to-one}
 use Rattle.port.specs.declared.Operation.{Operation}
 use Rattle.port.specs.declared.Operation.the-variants.{Idle, Read, Write}
 use Rattle.model.specs.Calls.{addressOk}
-use Rattle.model.specs.Ledger.{wrote, touched, some, written, sram, due}
+use Rattle.model.specs.Sram.{wrote, touched, some, written, sram, due}
 use Rattle.model.proofs.Config.{shownOp, shownDelivery}
 use Rattle.theory.proofs.Test.{same, Says, is, isnt, same?}
 use Rattle.theory.proofs.Operations.{Op, upd, word}

@@ -14,14 +14,15 @@ use Rattle.answers.specs.Answers.{dropped, stopping}
 use Rattle.setup.specs.Choice.{pick}
 use Rattle.setup.specs.Setup.{banksOf, merging}
 use Rattle.setup.specs.declared.Setup.{Setup}
-use Rattle.map.specs.Map.{cellOf}
+use Rattle.map.specs.Map.{cellOf, bankAt}
 use Rattle.map.specs.declared.Address.{Address}
 use Rattle.port.specs.declared.Operation.{Operation}
 use Rattle.port.specs.declared.Operation.the-variants.{Idle, Read, Write}
 use Rattle.port.specs.declared.Delivery.{Delivery}
 use Rattle.port.specs.declared.Reply.{Reply}
 use Rattle.model.specs.Calls.{addressOk}
-use Rattle.model.specs.Ledger.{Ledger, waits, wrote, touched, some, serviced, due, Need, nowhere, at, bankAt, retiring, retires, arrives, full, given, landed, passing, entered}
+use Rattle.model.specs.Sram.{wrote, touched, some, due}
+use Rattle.model.specs.Ledger.{Ledger, waits, serviced, Need, nowhere, at, retiring, retires, arrives, full, given, landed, passing, entered}
 use Rattle.model.specs.Depths.{Deeper}
 use Rattle.model.proofs.Tests.{pick-good}
 use Rattle.model.proofs.Booked.{entered-halted, entered-refused, entered-passes}

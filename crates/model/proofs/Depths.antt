@@ -24,7 +24,8 @@ use Rattle.port.specs.declared.Delivery.{Delivery}
 use Rattle.port.specs.declared.Delivery.the-variants.{None, Unready, Word}
 use Rattle.port.specs.declared.Reply.{Reply}
 use Rattle.model.specs.Calls.{addressOk}
-use Rattle.model.specs.Ledger.{Ledger, sram, entered}
+use Rattle.model.specs.Sram.{sram}
+use Rattle.model.specs.Ledger.{Ledger, entered}
 use Rattle.model.specs.Promises.{promised, booked}
 use Rattle.model.specs.Depths.{Deeper, WritesKept, NoneLost}
 use Rattle.model.proofs.Config.{configOf, shownOp, shownDelivery}

@@ -7,11 +7,12 @@ use lib.ListN.{getD, take, drop}
 use Rattle.setup.specs.Choice.{pick}
 use Rattle.setup.specs.Setup.{Ranges, banksOf, wordsOf, merging}
 use Rattle.setup.specs.declared.Setup.{Setup}
-use Rattle.map.specs.Map.{cellOf}
+use Rattle.map.specs.Map.{cellOf, bankAt}
 use Rattle.map.specs.declared.Address.{Address}
 use Rattle.port.specs.declared.Operation.{Operation}
 use Rattle.port.specs.declared.Operation.the-variants.{Idle, Read, Write}
-use Rattle.model.specs.Ledger.{Ledger, Need, nowhere, at, bankAt, wrote, touched, some, retiring, arrives}
+use Rattle.model.specs.Sram.{wrote, touched, some}
+use Rattle.model.specs.Ledger.{Ledger, Need, nowhere, at, retiring, arrives}
 use Rattle.model.proofs.Config.{configOf, shownOp}
 use Rattle.model.proofs.Cells.{Below, Within, some-wrote, some-touched}
 use Rattle.theory.proofs.Operations.{Op, idle}

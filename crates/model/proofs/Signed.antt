@@ -29,7 +29,8 @@ use Rattle.model.specs.Range.{Ready, lengthsOk, numbersOk}
 use Rattle.model.specs.Cycle.{passed}
 use Rattle.model.specs.Calls.{addressOk, refusalOf, refused, turnOf, cycleIn, cycleOf, told, questionOf, waitingIn, waitingOf}
 use Rattle.model.specs.Runs.{Machine, replyOf, replies, after, afterAll, fresh}
-use Rattle.model.specs.Ledger.{Ledger, ledger, freshLedger, waits, sram, serviced, due, retires, arrives, full, given, noted, replied, landed, entered}
+use Rattle.model.specs.Sram.{sram, due}
+use Rattle.model.specs.Ledger.{Ledger, ledger, freshLedger, waits, serviced, retires, arrives, full, given, noted, replied, landed, entered}
 use Rattle.model.specs.Ledger as L
 use Rattle.model.specs.Promises.{Starts, reached, startWord, replyAt, promised, booked, ledgerAt, passing, historyFrom, history, Passes, retiringAt, arrivingAt, Emulates, ReadLeaves, NothingElse, NeverUnready, StopsExactly, DropsExactly, NeverBadState, TellsWaiting, RefusesWhole, StampsCycles, TurnsApart}
 use Rattle.theory.proofs.Concrete.{Legal, CSt, CRun, on, off, setup, reachedC}

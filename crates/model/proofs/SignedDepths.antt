@@ -17,7 +17,8 @@ use Rattle.port.specs.declared.Delivery.the-variants.{Word}
 use Rattle.port.specs.declared.Reply.{Reply}
 use Rattle.model.specs.Calls.{addressOk}
 use Rattle.model.specs.Runs.{Machine}
-use Rattle.model.specs.Ledger.{freshLedger, sram, entered}
+use Rattle.model.specs.Sram.{sram}
+use Rattle.model.specs.Ledger.{freshLedger, entered}
 use Rattle.model.specs.Promises.{startWord, replyAt, ledgerAt, history, Passes}
 use Rattle.model.specs.Depths.{Alike, repliesTo, DeeperTakes, WritesKept, SameWord, MergingKeepsWrites, NoneLost, AgreeUntil}
 use Rattle.model.proofs.Calls.{checked-ranges}

@@ -17,7 +17,8 @@ use Rattle.port.specs.declared.Operation.the-variants.{Idle, Read, Write}
 use Rattle.port.specs.declared.Delivery.{Delivery}
 use Rattle.port.specs.declared.Reply.{Reply}
 use Rattle.model.specs.Calls.{addressOk}
-use Rattle.model.specs.Ledger.{Ledger, wrote, serviced, due, retires, full, given, landed, entered}
+use Rattle.model.specs.Sram.{wrote, due}
+use Rattle.model.specs.Ledger.{Ledger, serviced, retires, full, given, landed, entered}
 use Rattle.model.specs.Promises.{promised, booked}
 use Rattle.model.specs.Depths.{WritesKept}
 use Rattle.model.proofs.Tests.{pick-good}

@@ -13,7 +13,7 @@ use Rattle.port.specs.declared.Operation.the-variants.{Read}
 use Rattle.port.specs.declared.Delivery.the-variants.{Word}
 use Rattle.port.specs.declared.Reply.{Reply}
 use Rattle.model.specs.Runs.{Machine, replies, fresh}
-use Rattle.model.specs.Ledger.{wrote, sram}
+use Rattle.model.specs.Sram.{wrote, sram}
 use Rattle.model.specs.Promises.{Starts, startWord, replyAt, history, Passes}
 
 -- the same numbers but for K, and no fewer places

@@ -13,7 +13,7 @@ use Rattle.port.specs.declared.Reply.{Reply}
 use Rattle.model.specs.Lent.{lent}
 use Rattle.model.specs.Calls.{freshState}
 use Rattle.model.specs.Runs.{Machine, replies, fresh}
-use Rattle.model.specs.Ledger.{sram}
+use Rattle.model.specs.Sram.{sram}
 use Rattle.model.specs.Promises.{reached, startWord, history}
 
 -- rooms of zeros for a setup

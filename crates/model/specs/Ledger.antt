@@ -1,6 +1,6 @@
 -- The port as a history: what is promised. No table, no ring and no buffer contents stand here.
 use Prim.Native.Nat.{ℕ, _+_, _-_, _%_, _^_}
-use mathlib.Core.Bool.{Bool, true, false, _&&_, _||_}
+use mathlib.Core.Bool.{Bool, true, false, _&&_}
 use mathlib.Core.List.{List, [], _∷_}
 use lib.Dec.{eqb, ltb}
 use lib.ListN.{length, take, drop}
@@ -8,14 +8,15 @@ use Rattle.answers.specs.Answers.{done, badAddress, dropped, stopping, stopped}
 use Rattle.setup.specs.Choice.{pick}
 use Rattle.setup.specs.Setup.{merging}
 use Rattle.setup.specs.declared.Setup.{Setup}
-use Rattle.map.specs.Map.{cellOf, bankOf}
+use Rattle.map.specs.Map.{bankAt}
 use Rattle.map.specs.declared.Address.{Address}
 use Rattle.port.specs.declared.Operation.{Operation}
 use Rattle.port.specs.declared.Operation.the-variants.{Idle, Read, Write}
 use Rattle.port.specs.declared.Delivery.{Delivery}
-use Rattle.port.specs.declared.Delivery.the-variants.{None, Word}
+use Rattle.port.specs.declared.Delivery.the-variants.{None}
 use Rattle.port.specs.declared.Reply.{Reply}
 use Rattle.model.specs.Calls.{addressOk}
+use Rattle.model.specs.Sram.{wrote, touched, some, due}
 
 -- the operations of the passed cycles, newest first, a dropped one standing as idle;
 -- for each bank the entries placed and served since the fresh start; the stop mark
@@ -28,7 +29,6 @@ pub record Ledger : Type 0 where
 abbrev pub ledger : List Operation → (ℕ → ℕ) → (ℕ → ℕ) → Bool → Ledger
 ledger past placed served halted = record { past = past; placed = placed; served = served; halted = halted }
 
--- the first cycle after a fresh start is number 0
 abbrev pub freshLedger : Ledger
 freshLedger = ledger [] (λ b. 0) (λ b. 0) false
 
@@ -36,59 +36,19 @@ freshLedger = ledger [] (λ b. 0) (λ b. 0) false
 abbrev pub waits : Ledger → ℕ → ℕ
 waits l b = l .placed b - l .served b
 
-------------------------------------------------------------------------
--- The ideal SRAM: the word of the newest write to x, or the word that x started with
-
-abbrev pub wrote : Address → Operation → Bool
-wrote x Idle = false
-wrote x (Read y) = false
-wrote x (Write y w) = eqb (y .0) (x .0)
-
-abbrev pub touched : Address → Operation → Bool
-touched x Idle = false
-touched x (Read y) = eqb (y .0) (x .0)
-touched x (Write y w) = eqb (y .0) (x .0)
-
-abbrev pub some : (Operation → Bool) → List Operation → Bool
-some f [] = false
-some f (o ∷ past) = f o || some f past
-
-abbrev pub written : Operation → Address → ℕ → ℕ
-written Idle x v = v
-written (Read y) x v = v
-written (Write y w) x v = pick (eqb (y .0) (x .0)) w v
-
-abbrev pub sram : (Address → ℕ) → List Operation → Address → ℕ
-sram start [] x = start x
-sram start (o ∷ past) x = written o x (sram start past x)
-
-------------------------------------------------------------------------
--- 1. Service: each bank b with b mod m = t mod m, if something waits there. 2. Delivery: the read of cycle t − Δ
-
+-- 1. Service: each bank b with b mod m = t mod m, if something waits there
 abbrev pub serviced : Setup → Ledger → Ledger
 serviced s l =
     ledger (l .past) (l .placed)
     (λ b. l .served b + pick (eqb (b % s .m) (length (l .past) % s .m) && ltb 0 (waits l b)) 1 0)
     (l .halted)
 
--- of an operation, with those before it behind it
-abbrev pub due : (Address → ℕ) → List Operation → Delivery
-due start [] = None
-due start (Idle ∷ before) = None
-due start (Read x ∷ before) = Word (sram start before x)
-due start (Write x w ∷ before) = None
-
-------------------------------------------------------------------------
--- 3. Retirement and 4. arrival: at which bank, if any, a place is needed
-
+-- at which bank, if any, a place is needed
 pub data Need : Type 0 where
   nowhere : Need
   at : ℕ → Need
 
-abbrev pub bankAt : Setup → Address → ℕ
-bankAt s x = bankOf s (cellOf s x)
-
--- merging, the write of cycle t − C, if none of the C − 1 cycles since wrote its address
+-- 3. Retirement: merging, the write of cycle t − C, if none of the C − 1 cycles since wrote its address
 abbrev pub retiring : Setup → (since older : List Operation) → Need
 retiring s since [] = nowhere
 retiring s since (Idle ∷ before) = nowhere
@@ -98,7 +58,7 @@ retiring s since (Write x w ∷ before) = pick (some (wrote x) since) nowhere (a
 abbrev pub retires : Setup → Ledger → Need
 retires s l = pick (merging s) (retiring s (take (s .c - 1) (l .past)) (drop (s .c - 1) (l .past))) nowhere
 
--- plain, a read or a write; merging, a read, if none of the last C − 1 cycles had an operation on its address
+-- 4. Arrival: plain, a read or a write; merging, a read, if none of the last C − 1 cycles had an operation on its address
 abbrev pub arrives : Setup → Operation → Ledger → Need
 arrives s Idle l = nowhere
 arrives s (Read x) l = pick (merging s && some (touched x) (take (s .c - 1) (l .past))) nowhere (at (bankAt s x))
@@ -112,9 +72,6 @@ full s (at b) l = eqb (waits l b) (s .k)
 abbrev pub given : Need → Ledger → Ledger
 given nowhere l = l
 given (at c) l = ledger (l .past) (λ b. l .placed b + pick (eqb c b) 1 0) (l .served) (l .halted)
-
-------------------------------------------------------------------------
--- One call
 
 abbrev pub replied : ℕ → Delivery → ℕ → Reply
 replied answer d stamp = record { answer = answer; delivery = d; stamp = stamp }
@@ -133,6 +90,7 @@ passing s op d stamp l =
     pick (full s (retires s l) l) (replied stopping d stamp, ledger (l .past) (l .placed) (l .served) true)
     (landed s op d stamp (given (retires s l) l))
 
+-- one call. 2. Delivery: what is owed for cycle t − Δ, the Δ-th newest
 unfoldable pub entered : Setup → (Address → ℕ) → Operation → Ledger → Reply × Ledger
 entered s start op l =
     pick (l .halted) (replied stopped None 0, l)

@@ -3,6 +3,7 @@ pub mod Cycle
 pub mod Range
 pub mod Calls
 pub mod Runs
+pub mod Sram
 pub mod Ledger
 pub mod Promises
 pub mod Depths

@@ -20,7 +20,8 @@ use Rattle.model.specs.declared.State.{State}
 use Rattle.model.specs.Lent.{Lent}
 use Rattle.model.specs.Calls.{freshOf, addressOk, refused, cycleOf, waitingOf, told}
 use Rattle.model.specs.Runs.{Machine, replyOf, replies, after, afterAll, fresh}
-use Rattle.model.specs.Ledger.{Ledger, freshLedger, waits, sram, serviced, due, retires, arrives, full, given, entered}
+use Rattle.model.specs.Sram.{sram, due}
+use Rattle.model.specs.Ledger.{Ledger, freshLedger, waits, serviced, retires, arrives, full, given, entered}
 
 ------------------------------------------------------------------------
 -- A run
