@@ -1,0 +1,153 @@
+// Reads a setup from the file `setup` and operations from standard input, and prints a line per record.
+ghost use mathlib.Core.Path.{_≡_};
+ghost use Prim.Native.Nat.{_+_, _*_, _^_, _≤_, _<_};
+ghost use lib.ListN.{length};
+ghost use Rattle.io.specs.Counts.{Counts};
+ghost use Rattle.model.specs.Lent.{lent};
+ghost use Rattle.listing.specs.Listing.{pairTable, lineMost};
+ghost use Rattle.recorded.specs.Recorded.{recordsIn, zerosFor, wholeRoom, Opened};
+ghost use Rattle.cyclerun.specs.Parts.{partMost};
+use libc::STDIN_FILENO;
+use libc::STDOUT_FILENO;
+use recorded::Opening;
+use recorded::Run;
+use setup::Setup;
+
+// The records that are read and printed at once. 
+const PART: usize = 1024;
+
+const INPUT_BYTES: usize = records::OPERATION_BYTES * PART;
+
+const OUTPUT_BYTES: usize = listing::LINE_MOST * PART;
+
+// No input has as many parts.
+const MOST_PARTS: u64 = 1 << 53;
+
+// Reads a part of the input and prints its lines. The run goes on where the part was whole.
+fn turn(
+    s: Setup,
+    run: Run,
+    memory: &mut [u32],
+    rows: &mut [u32],
+    entries: &mut [u32],
+    heads: &mut [u32],
+    table: &[u8; listing::PAIRS],
+    input: &mut [u8],
+    out: &mut [u8],
+) -> Run
+    requires { ⌜ (now table ≡ pairTable) × (lineMost * recordsIn (length (now input)) ≤ length (now out)) × (run .number + recordsIn (length (now input)) < 2 ^ 64) ⌝ }
+    ensures { λ r. ⌜ r .number ≤ run .number + recordsIn (length (now (input .entry))) ⌝ }
+{
+    let n = io::read_full(STDIN_FILENO, input);
+    let r = recorded::part(s, run, &input[..n], memory, rows, entries, heads, table, out);
+    let end = r.end;
+    let written = io::write_all(STDOUT_FILENO, &out[..end]);
+    let state = r.state;
+    Run {
+        state,
+        number: r.number,
+        on: r.on & written & (n == input.len()),
+        end,
+    }
+}
+
+// Runs to the end of the input or to a bad record.
+fn run_all(
+    s: Setup,
+    memory: &mut [u32],
+    rows: &mut [u32],
+    entries: &mut [u32],
+    heads: &mut [u32],
+    table: &[u8; listing::PAIRS],
+    input: &mut [u8],
+    out: &mut [u8],
+)
+    requires { ⌜ Opened s × (lent (now memory) (now rows) (now entries) (now heads) ≡ zerosFor s) × (now table ≡ pairTable) × (recordsIn (length (now input)) ≤ partMost) × (lineMost * partMost ≤ length (now out)) ⌝ }
+{
+    let mut r = recorded::begin(s, memory, rows, entries, heads);
+    let mut parts = MOST_PARTS;
+    while 0 < parts && r.on {
+        r = turn(s, r, memory, rows, entries, heads, table, input, out);
+        parts -= 1;
+    }
+}
+
+// Runs in the part of the program's room that the setup asks for.
+fn cut(
+    s: Setup,
+    memory: &mut [u32],
+    rows: &mut [u32],
+    entries: &mut [u32],
+    heads: &mut [u32],
+    table: &[u8; listing::PAIRS],
+    input: &mut [u8],
+    out: &mut [u8],
+)
+    requires { ⌜ Opened s × (lent (now memory) (now rows) (now entries) (now heads) ≡ wholeRoom) × (now table ≡ pairTable) × (recordsIn (length (now input)) ≤ partMost) × (lineMost * partMost ≤ length (now out)) ⌝ }
+{
+    let words = s.words() as usize;
+    let banks = s.banks() as usize;
+    let row_numbers = 4 * (s.c as usize);
+    let entry_numbers = 4 * (banks * (s.k as usize));
+    let head_numbers = 2 * banks;
+    run_all(
+        s,
+        &mut memory[..words],
+        &mut rows[..row_numbers],
+        &mut entries[..entry_numbers],
+        &mut heads[..head_numbers],
+        table,
+        input,
+        out,
+    );
+}
+
+// Makes the program's room, all zeros, and runs in it.
+fn start(s: Setup)
+    requires { ⌜ Opened s ⌝ }
+{
+    let mut memory = [0u32; recorded::WORDS];
+    let mut rows = [0u32; recorded::ROW_NUMBERS];
+    let mut entries = [0u32; recorded::ENTRY_NUMBERS];
+    let mut heads = [0u32; recorded::HEAD_NUMBERS];
+    let mut input = [0u8; INPUT_BYTES];
+    let mut out = [0u8; OUTPUT_BYTES];
+    let table = listing::pairs();
+    cut(
+        s,
+        &mut memory,
+        &mut rows,
+        &mut entries,
+        &mut heads,
+        &table,
+        &mut input,
+        &mut out,
+    );
+}
+
+// Reads the file `setup`: no bytes where it is missing.
+fn read_setup(file: &mut [u8]) -> usize
+    ensures { λ r. ⌜ Counts r (now (file .exit)) ⌝ }
+{
+    let fd = os::open_read(b"setup");
+    if fd < 0 {
+        return 0;
+    }
+    let n = io::read_full(fd, file);
+    libc::close(fd);
+    n
+}
+
+fn main() {
+    // One byte more than a setup has, so that a file that is too long is seen.
+    let mut file = [0u8; records::SETUP_BYTES + 1];
+    let n = read_setup(&mut file);
+    let opening = recorded::open(&file[..n]);
+    match opening {
+        Opening::Open(s) => start(s),
+        Opening::Refused(answer) => {
+            let line = recorded::setup_line(answer);
+            io::write_all(STDOUT_FILENO, &line);
+        }
+    }
+}

@@ -1,0 +1,5 @@
+pub mod Opens
+pub mod Lines
+pub mod Parts
+pub mod Replies
+mod Examples

@@ -1,0 +1,3 @@
+pub mod Recorded
+pub mod Parts
+pub mod Replies
