@@ -45,6 +45,11 @@ impl History {
         Some((cycle, *self.operations.get(cycle)?))
     }
 
+    /// The operations of the last so many cycles, or of all where the run is younger.
+    pub fn last(&self, cycles: usize) -> &[Operation] {
+        &self.operations[self.now().saturating_sub(cycles)..]
+    }
+
     /// The cycle of the newest read or write of an address.
     pub fn newest(&self, address: Address) -> Option<usize> {
         self.newest.get(&address).copied()

@@ -5,6 +5,7 @@
 
 pub mod answer;
 pub mod compare;
+pub mod draw;
 pub mod files;
 pub mod generate;
 pub mod history;

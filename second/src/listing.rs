@@ -25,7 +25,7 @@ pub fn write_listing(
 }
 
 /// The configuration, or the answer with which the program ends.
-fn admitted(setup: Option<&[u8]>) -> Result<Configuration, Answer> {
+pub fn admitted(setup: Option<&[u8]>) -> Result<Configuration, Answer> {
     let setup = setup.and_then(read_setup).ok_or(Answer::OutOfRange)?;
     let configuration = setup.checked().ok_or(Answer::OutOfRange)?;
     if has_room(&configuration) {

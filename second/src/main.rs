@@ -1,6 +1,7 @@
 //! The commands of the second program.
 
 use second::compare::compare;
+use second::draw::drawing;
 use second::listing::write_listing;
 use second::{files, generate, text};
 use std::ffi::OsString;
@@ -10,6 +11,7 @@ use std::process::ExitCode;
 
 const USAGE: &str = "\
 second listing FOLDER               what cyclerun must print for FOLDER/setup and FOLDER/operations
+second draw FOLDER                  the same run as a picture (SVG), one column a call
 second generate SEED FOLDER         writes the setup and the operations of a generated run into FOLDER
 second compare SEED COUNT PROGRAM.. compares a command with the listings of COUNT generated runs
 second pack setup|operations        text on standard input to records on standard output
@@ -52,6 +54,7 @@ fn run(arguments: &[OsString]) -> Result<(), Ending> {
         .collect();
     match words[..] {
         ["listing", _] => listing(Path::new(&arguments[1])),
+        ["draw", _] => draw(Path::new(&arguments[1])),
         ["generate", seed, _] => write_generated(number(seed)?, Path::new(&arguments[2])),
         ["compare", seed, count, _, ..] => {
             compare_all(number(seed)?, number(count)?, &arguments[3..])
@@ -70,6 +73,11 @@ fn listing(folder: &Path) -> Result<(), Ending> {
     write_listing(run.setup.as_deref(), &run.operations, &mut listing)
         .and_then(|()| listing.flush())
         .map_err(output_error)
+}
+
+fn draw(folder: &Path) -> Result<(), Ending> {
+    let run = files::read_run(folder)?;
+    print(drawing(run.setup.as_deref(), &run.operations)?.as_bytes())
 }
 
 fn write_generated(seed: u64, folder: &Path) -> Result<(), Ending> {

@@ -85,6 +85,28 @@ impl Port {
         self.banks[bank].placed.len()
     }
 
+    /// How many of the entries placed at a bank were served.
+    pub fn served(&self, bank: usize) -> usize {
+        self.banks[bank].served
+    }
+
+    /// Of each entry that waits at a bank, oldest first, whether it is a write.
+    pub fn waiting_writes(&self, bank: usize) -> impl Iterator<Item = bool> + '_ {
+        let bank = &self.banks[bank];
+        let waiting = bank.placed[bank.served..].iter();
+        waiting.map(|entry| matches!(entry, Entry::Write(..)))
+    }
+
+    /// The number of passed cycles.
+    pub fn now(&self) -> usize {
+        self.history.now()
+    }
+
+    /// The operations whose rows are live, oldest first; a row that is empty stands as idle.
+    pub fn live(&self) -> &[Operation] {
+        self.history.last(self.configuration.c)
+    }
+
     /// What the memory holds at a cell: the word of the newest write entry to it that was served.
     pub fn memory_word(&self, cell: Cell) -> Word {
         let bank = &self.banks[self.configuration.bank(cell)];

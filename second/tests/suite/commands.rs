@@ -2,6 +2,7 @@
 
 use crate::said::listing;
 use second::compare::first_difference;
+use second::draw::drawing;
 use second::{files, generate};
 use std::fs::{self, File};
 use std::path::{Path, PathBuf};
@@ -45,6 +46,7 @@ fn a_wrong_call_prints_the_usage() {
         &["list"],
         &["listing"],
         &["listing", "a", "b"],
+        &["draw"],
         &["generate", "x", "folder"],
         &["compare", "1", "2"],
         &["compare", "1", "-2", "true"],
@@ -70,6 +72,25 @@ fn listing_prints_the_listing_of_a_generated_run() {
         assert!(printed.status.success());
         let due = listing(due.setup.as_deref(), &due.operations);
         assert_eq!(text(&printed.stdout), due, "seed {seed}");
+    }
+}
+
+#[test]
+fn draw_prints_a_picture_and_refuses_a_refused_setup() {
+    let folder = folder("draw");
+    let path = folder.to_str().unwrap();
+    for seed in 0..60 {
+        assert!(run(&["generate", &seed.to_string(), path]).status.success());
+        let printed = run(&["draw", path]);
+        let due = generate::run(seed);
+        match drawing(due.setup.as_deref(), &due.operations) {
+            Ok(picture) => assert_eq!(text(&printed.stdout), picture, "seed {seed}"),
+            Err(message) => {
+                assert_eq!(printed.status.code(), Some(1), "seed {seed}");
+                assert_eq!(text(&printed.stderr), format!("second: {message}\n"));
+                assert!(printed.stdout.is_empty());
+            }
+        }
     }
 }
 

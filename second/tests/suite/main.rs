@@ -3,6 +3,7 @@
 mod bench;
 mod commands;
 mod demands;
+mod draw;
 mod examples;
 mod generator;
 mod one_cycle;
