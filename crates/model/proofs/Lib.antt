@@ -31,3 +31,4 @@ pub mod Deepened
 pub mod Depths
 pub mod SignedDepths
 pub mod Examples
+pub mod SignedTable

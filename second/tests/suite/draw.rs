@@ -57,6 +57,14 @@ fn the_stored_picture_is_that_of_p9() {
 }
 
 #[test]
+fn the_stored_picture_of_a_read_behind_a_write_is_that_run() {
+    let setup = "mode 1 a 1 s 0 m 2 k 2 delta 4 c 4 u 1 v 0";
+    let idle = "idle, idle, idle, idle";
+    let drawn = picture(setup, &format!("write 0 5, {idle}, read 0, {idle}"));
+    assert_eq!(drawn.as_bytes(), stored("docs/behind.svg"));
+}
+
+#[test]
 fn generated_runs_have_a_column_a_call() {
     for seed in 0..200 {
         let run = generate::run(seed);

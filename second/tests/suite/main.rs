@@ -2,6 +2,7 @@
 
 mod bench;
 mod commands;
+mod course;
 mod demands;
 mod draw;
 mod examples;
