@@ -198,7 +198,11 @@ impl Sheet {
             width: self.column,
             height: self.height() - LEGEND - HEADING,
         };
-        let shade = if number % 2 == 0 { SHADE } else { PAPER };
+        let shade = if number.is_multiple_of(2) {
+            SHADE
+        } else {
+            PAPER
+        };
         self.picture.rectangle(column, shade, "none");
         self.say(number, HEADING + 14.0, &number.to_string(), INK);
         self.offered(number);

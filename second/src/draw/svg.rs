@@ -61,7 +61,8 @@ impl Picture {
             height,
         } = at;
         self.line(format_args!(
-            "<rect x=\"{x:.1}\" y=\"{y:.1}\" width=\"{width:.1}\" height=\"{height:.1}\" fill=\"{fill}\" stroke=\"{stroke}\"/>"
+            "<rect x=\"{x:.1}\" y=\"{y:.1}\" width=\"{width:.1}\" height=\"{height:.1}\" \
+             fill=\"{fill}\" stroke=\"{stroke}\"/>"
         ));
     }
 
@@ -79,7 +80,8 @@ impl Picture {
             ""
         };
         self.line(format_args!(
-            "<line x1=\"{x:.1}\" y1=\"{y:.1}\" x2=\"{to_x:.1}\" y2=\"{to_y:.1}\" stroke=\"{INK}\" stroke-width=\"1\"{dashes}/>"
+            "<line x1=\"{x:.1}\" y1=\"{y:.1}\" x2=\"{to_x:.1}\" y2=\"{to_y:.1}\" \
+             stroke=\"{INK}\" stroke-width=\"1\"{dashes}/>"
         ));
     }
 
@@ -91,7 +93,8 @@ impl Picture {
             Side::Middle => "middle",
         };
         self.line(format_args!(
-            "<text x=\"{x:.1}\" y=\"{y:.1}\" font-size=\"{size:.1}\" fill=\"{colour}\" text-anchor=\"{anchor}\">{said}</text>"
+            "<text x=\"{x:.1}\" y=\"{y:.1}\" font-size=\"{size:.1}\" \
+             fill=\"{colour}\" text-anchor=\"{anchor}\">{said}</text>"
         ));
     }
 
@@ -102,7 +105,9 @@ impl Picture {
     /// The whole file of a picture of this width and height.
     pub fn finished(self, width: f64, height: f64) -> String {
         let head = format!(
-            "<svg xmlns=\"http://www.w3.org/2000/svg\" width=\"{width:.0}\" height=\"{height:.0}\" viewBox=\"0 0 {width:.0} {height:.0}\" font-family=\"Helvetica, Arial, sans-serif\">\n"
+            "<svg xmlns=\"http://www.w3.org/2000/svg\" width=\"{width:.0}\" height=\"{height:.0}\" \
+             viewBox=\"0 0 {width:.0} {height:.0}\" \
+             font-family=\"Helvetica, Arial, sans-serif\">\n"
         );
         head + &self.0 + "</svg>\n"
     }
