@@ -13,7 +13,7 @@ use recorded::Opening;
 use recorded::Run;
 use setup::Setup;
 
-// The records that are read and printed at once. 
+// The records that are read and printed at once.
 const PART: usize = 1024;
 
 const INPUT_BYTES: usize = records::OPERATION_BYTES * PART;
@@ -24,7 +24,7 @@ const OUTPUT_BYTES: usize = listing::LINE_MOST * PART;
 const MOST_PARTS: u64 = 1 << 53;
 
 // Reads a part of the input and prints its lines. The run goes on where the part was whole.
-fn turn(
+fn run_part(
     s: Setup,
     run: Run,
     memory: &mut [u32],
@@ -67,7 +67,7 @@ fn run_all(
     let mut r = recorded::begin(s, memory, rows, entries, heads);
     let mut parts = MOST_PARTS;
     while 0 < parts && r.on {
-        r = turn(s, r, memory, rows, entries, heads, table, input, out);
+        r = run_part(s, r, memory, rows, entries, heads, table, input, out);
         parts -= 1;
     }
 }

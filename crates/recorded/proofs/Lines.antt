@@ -1,5 +1,5 @@
 -- A record's line behind the text of the records before it. Assumes nothing.
-use Prim.Native.Nat.{ℕ, zero, suc, _+_, _-_, _*_, _/_, _≤_, _<_, min}
+use Prim.Native.Nat.{ℕ, zero, suc, _+_, _-_, _*_, _≤_, min}
 use mathlib.Core.Path.{_≡_, refl, sym, ap, subst, _∙_}
 use mathlib.Core.Bool.{Bool, true, false}
 use mathlib.Core.List.{List, [], _∷_, _++_}
@@ -21,7 +21,7 @@ use Rattle.model.specs.Calls.{cycleOf}
 use Rattle.model.specs.Runs.{Machine}
 use Rattle.records.specs.Records.{operationSize, operationOf}
 use Rattle.records.specs.declared.OperationRecord.{OperationRecord}
-use Rattle.listing.specs.Listing.{lineOf, lineMost, stored}
+use Rattle.listing.specs.Listing.{lineOf, stored}
 use Rattle.listing.proofs.Stores.{stored-none, stored-after}
 use Rattle.recorded.specs.declared.Run.{Run}
 use Rattle.recorded.specs.Recorded.{Listed, withLine, withRecord, recordAt, recordsIn, listedBelow, listed, listedFrom, putAt, putLine}
@@ -94,6 +94,10 @@ picked b u v h = rw h
 passed-by : {A : Type 0} (b : Bool) (u v : A) → b ≡ false → pick b u v ≡ v
 passed-by b u v h = rw h
 
+picked-most : (b : Bool) (u v : Listed) (n : ℕ) → u .number ≤ n → v .number ≤ n → pick b u v .number ≤ n
+picked-most true u v n h k = h
+picked-most false u v n h k = k
+
 module _ (s : Setup) (input : List ℕ) (i : ℕ) (x : Listed) where
   -- a run that goes on takes the next record
   below-on : listedBelow s input i x .on ≡ true → listedBelow s input (suc i) x ≡ withRecord s (operationOf (recordAt input i)) (listedBelow s input i x)
@@ -143,6 +147,19 @@ module _ (s : Setup) (input : List ℕ) (x : Listed) where
   listed-ended room i r m room′ l h e =
       let off : listedBelow s input i x .on ≡ false = sym (ap (λ (w : Run × (Lent × List ℕ)). w .0 .on) e) ∙ h in
       e ∙ ap (λ (y : Listed). putAt room 0 y) (sym (ended (recordsIn (length input)) i l off))
+
+  -- the records of a part are counted on at most
+  number-below : (i : ℕ) → listedBelow s input i x .number ≤ x .number + i
+  unfolding listedBelow
+  number-below zero = omega arith
+  number-below (suc i) =
+      picked-most (listedBelow s input i x .on) _ _ (x .number + suc i)
+      (omega (arith, counted s (operationOf (recordAt input i)) (listedBelow s input i x), number-below i)) (omega (arith, number-below i))
+
+pub number-most : (s : Setup) (input : List ℕ) (r r′ : Run) (m m′ : Lent) (room room′ : List ℕ)
+    → (r′, (m′, room′)) ≡ putAt room 0 (listed s input (listedFrom r m)) → r′ .number ≤ r .number + recordsIn (length input)
+number-most s input r r′ m m′ room room′ e =
+    omega (arith, ap (λ (w : Run × (Lent × List ℕ)). w .0 .number) e, number-below s input (listedFrom r m) (recordsIn (length input)))
 
 ------------------------------------------------------------------------
 -- The bytes of a record

@@ -27,7 +27,7 @@ use Rattle.listing.specs.Listing.{ten, nought, decimal}
 use Rattle.listing.proofs.Digits.{decimal-one}
 use Rattle.recorded.specs.declared.Opening.{Opening}
 use Rattle.recorded.specs.declared.Run.{Run}
-use Rattle.recorded.specs.Recorded.{mostA, mostC, mostPlaces, roomFor, openingIn, openingFor, openingOf, setupLine, zerosFor, wholeRoom, Opened, begun}
+use Rattle.recorded.specs.Recorded.{mostA, mostC, mostPlaces, roomFor, openingIn, openingFor, openingOf, setupLine, zerosFor, mostBanks, wholeRoom, Opened, begun}
 
 ------------------------------------------------------------------------
 -- Opening. g is what the record reads as, k what the check of its setup answered, b what the test of the room answered
@@ -141,7 +141,7 @@ module _ (s : Setup) (memory rows entries heads : List ℕ) (o : Opened s) (x : 
   entries-most : 4 * (banksOf s * s .k) ≤ 4 * mostPlaces
   entries-most = let l : banksOf s * s .k ≤ mostPlaces = search (and-l, and-r, leb-true) depth 12 in omega arith
 
-  heads-most : 2 * banksOf s ≤ 2 * 2 ^ 6
+  heads-most : 2 * banksOf s ≤ 2 * mostBanks
   heads-most = omega (arith, banks-most s (o .ranges .sizes))
 
   pub words-within : (w : ℕ) → w ≡ wordsOf s → w ≤ length memory
@@ -156,7 +156,7 @@ module _ (s : Setup) (memory rows entries heads : List ℕ) (o : Opened s) (x : 
 
   pub heads-within : (b : ℕ) → b ≡ banksOf s → 2 * b ≤ length heads
   heads-within b e =
-      within (2 * 2 ^ 6) heads (ap (λ (y : Lent). y .buffers .heads) x) (2 * b) (2 * banksOf s) (ap (λ (n : ℕ). 2 * n) e) heads-most
+      within (2 * mostBanks) heads (ap (λ (y : Lent). y .buffers .heads) x) (2 * b) (2 * banksOf s) (ap (λ (n : ℕ). 2 * n) e) heads-most
 
   pub room-cut : (w b : ℕ) → w ≡ wordsOf s → b ≡ banksOf s
       → lent (take w memory) (take (4 * s .c) rows) (take (4 * (b * s .k)) entries) (take (2 * b) heads) ≡ zerosFor s
@@ -168,7 +168,7 @@ module _ (s : Setup) (memory rows entries heads : List ℕ) (o : Opened s) (x : 
       take-replicate 0 (wordsOf s) (2 ^ mostA) words-most,
       take-replicate 0 (4 * s .c) (4 * mostC) rows-most,
       take-replicate 0 (4 * (banksOf s * s .k)) (4 * mostPlaces) entries-most,
-      take-replicate 0 (2 * banksOf s) (2 * 2 ^ 6) heads-most)
+      take-replicate 0 (2 * banksOf s) (2 * mostBanks) heads-most)
 
 ------------------------------------------------------------------------
 -- A run that begins

@@ -74,7 +74,7 @@ abbrev pub withLine : Listed → ℕ → Delivery → Bool → Machine → Liste
 withLine x answer d on w =
     record { text = x .text ++ lineOf (x .number) answer d; number = x .number + 1; on = on; machine = w }
 
--- a bad record prints its line with 9 and ends the run; the controller is not asked
+-- a bad record prints its line with 9 and ends the run: the controller is not asked, also after a stop
 unfoldable pub withRecord : Setup → OperationRecord → Listed → Listed
 withRecord s OperationRecord.Bad x = withLine x badRecord Delivery.None false (x .machine)
 withRecord s (OperationRecord.Good op) x =
@@ -108,9 +108,13 @@ zerosIn n c p b = lent (replicate n 0) (replicate (4 * c) 0) (replicate (4 * p) 
 abbrev pub zerosFor : Setup → Lent
 zerosFor s = zerosIn (wordsOf s) (s .c) (banksOf s * s .k) (banksOf s)
 
--- the program's whole room: s is at most 6
+-- no setup has more banks
+abbrev pub mostBanks : ℕ
+mostBanks = 2 ^ 6
+
+-- the program's whole room
 abbrev pub wholeRoom : Lent
-wholeRoom = zerosIn (2 ^ mostA) mostC mostPlaces (2 ^ 6)
+wholeRoom = zerosIn (2 ^ mostA) mostC mostPlaces mostBanks
 
 abbrev pub firstOf : Setup → Listed
 firstOf s = record { text = []; number = 0; on = true; machine = (freshState, zerosFor s) }
@@ -148,6 +152,6 @@ pub record Opened (s : Setup) : Type 0 where
   pub checked : checkedOf s ≡ Checked.Good s
   pub room : roomFor s ≡ true
 
--- a fresh start that answers 0 leaves zeros everywhere
+-- a run before its first record, as `firstOf` has it: a fresh start leaves zeros everywhere
 abbrev pub begun : Setup → Run × Lent
 begun s = (record { state = freshState; number = 0; on = true; end = 0 }, zerosFor s)

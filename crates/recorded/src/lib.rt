@@ -176,7 +176,7 @@ pub fn part(
     out: &mut [u8],
 ) -> Run
     requires { ⌜ (now table ≡ pairTable) × (lineMost * recordsIn (length (now input)) ≤ length (now out)) × (run .number + recordsIn (length (now input)) < 2 ^ 64) ⌝ }
-    ensures { λ r. ⌜ ((r, (lent (now (memory .exit)) (now (rows .exit)) (now (entries .exit)) (now (heads .exit)), now (out .exit))) ≡ putAt (now (out .entry)) 0 (listed s (now (input .entry)) (listedFrom run (lent (now (memory .entry)) (now (rows .entry)) (now (entries .entry)) (now (heads .entry)))))) × (r .end ≤ length (now (out .exit))) × (r .number ≤ run .number + recordsIn (length (now (input .entry)))) ⌝ }
+    ensures { λ r. ⌜ ((r, (lent (now (memory .exit)) (now (rows .exit)) (now (entries .exit)) (now (heads .exit)), now (out .exit))) ≡ putAt (now (out .entry)) 0 (listed s (now (input .entry)) (listedFrom run (lent (now (memory .entry)) (now (rows .entry)) (now (entries .entry)) (now (heads .entry)))))) × (r .end ≤ length (now (out .exit))) ⌝ }
 {
     let count = (input.len() + (records::OPERATION_BYTES - 1)) / records::OPERATION_BYTES;
     let state = run.state;

@@ -31,8 +31,8 @@ loop-holds c =
     let first = ap (λ (w : Run × Lent). w .0 .number) (c .before .before .before .before .begin .ensures) in
     (omega (arith, first), search needs, search needs, search needs, search needs, search needs, search needs)
 
-turn-requires : tie.Need-turn-requires Inv-loop μ-loop
-turn-requires c κs = search needs
+run-part-requires : tie.Need-run-part-requires Inv-loop μ-loop
+run-part-requires c κs = search needs
 
 sub-parts : tie.Need-sub-parts Inv-loop μ-loop
 sub-parts c = search needs
@@ -45,7 +45,7 @@ loop-again c =
     let turn = c .before .before .before .before .before .before .before .before .before .before .before .before in
     let loop = turn .before .before .before .before .before .before .before .before .before in
     let most = loop .before .before .before .before .before .before .before .before .before .before .before .before .before .before .before .before .pre .3 in
-    (omega (arith, turn .turn .ensures, loop .loop .inv, most), search needs, search needs, search needs, search needs, search needs, search needs)
+    (omega (arith, turn .run-part .ensures, loop .loop .inv, most), search needs, search needs, search needs, search needs, search needs, search needs)
 
 same-length : tie.Need-same-length Inv-loop μ-loop
 same-length c = search needs
@@ -97,7 +97,7 @@ run-all-spec =
     μ-loop
     begin-requires
     loop-holds
-    turn-requires
+    run-part-requires
     sub-parts
     loop-less
     loop-again

@@ -97,7 +97,7 @@ same-length-5 c = search needs
 returns : tie.Need-returns Inv-loop μ-loop
 returns c =
     let loop = c .before .before .loop in
-    (listed-ended _ _ _ _ _ _ _ _ (loop .inv .0) (c .if1 .left) (loop .inv .8), omega arith, omega arith)
+    (listed-ended _ _ _ _ _ _ _ _ (loop .inv .0) (c .if1 .left) (loop .inv .8), omega arith)
 
 same-length-6 : tie.Need-same-length-6 Inv-loop μ-loop
 same-length-6 c = search needs
@@ -117,7 +117,7 @@ same-length-10 c = search needs
 returns-2 : tie.Need-returns-2 Inv-loop μ-loop
 returns-2 c =
     let loop = c .before .loop in
-    (listed-end _ _ _ _ _ _ (omega arith) (loop .inv .0) (loop .inv .8), omega arith, omega arith)
+    (listed-end _ _ _ _ _ _ (omega arith) (loop .inv .0) (loop .inv .8), omega arith)
 
 pub part-spec : {M : Type 1} → statement M
 part-spec =

@@ -1,8 +1,10 @@
--- `cyclerun::turn` meets its contract: the text ends within the room. Assumes nothing.
+-- `cyclerun::run_part` meets its contract: the text ends within the room, and each record is counted once. Assumes nothing.
+use native.Mathlib.Omega.{arith}
 use Rattle.io.proofs.Counting.{front}
+use Rattle.recorded.proofs.Lines.{number-most}
 use borrow.Author.Needs.{needs}
-use Rattle.cyclerun.proofs.turn.Statement.{statement}
-use Rattle.cyclerun.proofs.turn.Tie as tie
+use Rattle.cyclerun.proofs.run_part.Statement.{statement}
+use Rattle.cyclerun.proofs.run_part.Tie as tie
 
 read-full-requires : tie.Need-read-full-requires
 read-full-requires c κs = search needs
@@ -44,10 +46,13 @@ same-length-6 : tie.Need-same-length-6
 same-length-6 c = search needs
 
 returns : tie.Need-returns
-returns c = search needs
+returns c =
+    let ran = c .before .before .before .before .before .before .before .before .before .before .before .before .before .before in
+    let read = ran .before .before .before .before .before .before .before .before .before in
+    omega (arith, number-most _ _ (read .before .before .before .before .before .before .before .before .args .run) _ _ _ _ _ (ran .part .ensures .0), read .read-full .ensures, read .read-full .kept)
 
-pub turn-spec : {M : Type 1} → statement M
-turn-spec =
+pub run-part-spec : {M : Type 1} → statement M
+run-part-spec =
     tie.close
     (tie.spec
     read-full-requires
