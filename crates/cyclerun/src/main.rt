@@ -39,7 +39,17 @@ fn run_part(
     ensures { λ r. ⌜ r .number ≤ run .number + recordsIn (length (now (input .entry))) ⌝ }
 {
     let n = io::read_full(STDIN_FILENO, input);
-    let r = recorded::part(s, run, &input[..n], memory, rows, entries, heads, table, out);
+    let r = recorded::part(
+        s,
+        run,
+        &input[..n],
+        memory,
+        rows,
+        entries,
+        heads,
+        table,
+        out,
+    );
     let end = r.end;
     let written = io::write_all(STDOUT_FILENO, &out[..end]);
     let state = r.state;

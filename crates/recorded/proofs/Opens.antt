@@ -163,12 +163,14 @@ module _ (s : Setup) (memory rows entries heads : List ℕ) (o : Opened s) (x : 
   room-cut w b ew eb =
       let cut : Lent → Lent = λ y. lent (take w (y .memory)) (take (4 * s .c) (y .rows)) (take (4 * (b * s .k)) (y .buffers .entries)) (take (2 * b) (y .buffers .heads)) in
       ap cut x
-      ∙ rw (ew,
-      eb,
-      take-replicate 0 (wordsOf s) (2 ^ mostA) words-most,
-      take-replicate 0 (4 * s .c) (4 * mostC) rows-most,
-      take-replicate 0 (4 * (banksOf s * s .k)) (4 * mostPlaces) entries-most,
-      take-replicate 0 (2 * banksOf s) (2 * mostBanks) heads-most)
+      ∙ rw (
+        ew,
+        eb,
+        take-replicate 0 (wordsOf s) (2 ^ mostA) words-most,
+        take-replicate 0 (4 * s .c) (4 * mostC) rows-most,
+        take-replicate 0 (4 * (banksOf s * s .k)) (4 * mostPlaces) entries-most,
+        take-replicate 0 (2 * banksOf s) (2 * mostBanks) heads-most,
+      )
 
 ------------------------------------------------------------------------
 -- A run that begins
@@ -176,14 +178,16 @@ module _ (s : Setup) (memory rows entries heads : List ℕ) (o : Opened s) (x : 
 -- zeros are as long as a setup asks
 zeros-exact : (s : Setup) → lengthsOk s (zerosFor s) ≡ true
 zeros-exact s =
-    rw (length-replicate (wordsOf s) zero,
-    length-replicate (4 * s .c) zero,
-    length-replicate (4 * (banksOf s * s .k)) zero,
-    length-replicate (2 * banksOf s) zero,
-    eq-eqb (wordsOf s) (wordsOf s) refl,
-    eq-eqb (4 * s .c) (4 * s .c) refl,
-    eq-eqb (4 * (banksOf s * s .k)) (4 * (banksOf s * s .k)) refl,
-    eq-eqb (2 * banksOf s) (2 * banksOf s) refl)
+    rw (
+      length-replicate (wordsOf s) zero,
+      length-replicate (4 * s .c) zero,
+      length-replicate (4 * (banksOf s * s .k)) zero,
+      length-replicate (2 * banksOf s) zero,
+      eq-eqb (wordsOf s) (wordsOf s) refl,
+      eq-eqb (4 * s .c) (4 * s .c) refl,
+      eq-eqb (4 * (banksOf s * s .k)) (4 * (banksOf s * s .k)) refl,
+      eq-eqb (2 * banksOf s) (2 * banksOf s) refl,
+    )
 
 pub begins : (s : Setup) (t : State) (x y : Lent) (r : Started) → Opened s → x ≡ zerosFor s → (r, y) ≡ freshOf s t x
     → (record { state = r .state; number = 0; on = true; end = 0 }, y) ≡ begun s

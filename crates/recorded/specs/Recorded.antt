@@ -136,15 +136,17 @@ listedFrom r x = record { text = []; number = r .number; on = r .on; machine = (
 
 -- the run, what it lends the machine, and the room with the text from a place on
 abbrev pub putAt : List ℕ → ℕ → Listed → Run × (Lent × List ℕ)
-putAt room at y =
-    (record { state = y .machine .0; number = y .number; on = y .on; end = at + length (y .text) },
-    (y .machine .1, stored room at (y .text)))
+putAt room at y = (
+  record { state = y .machine .0; number = y .number; on = y .on; end = at + length (y .text) },
+  (y .machine .1, stored room at (y .text)),
+)
 
 -- one line more
 abbrev pub putLine : List ℕ → Run → State → ℕ → Delivery → Bool → Run × List ℕ
-putLine room r t answer d on =
-    (record { state = t; number = r .number + 1; on = on; end = r .end + length (lineOf (r .number) answer d) },
-    stored room (r .end) (lineOf (r .number) answer d))
+putLine room r t answer d on = (
+  record { state = t; number = r .number + 1; on = on; end = r .end + length (lineOf (r .number) answer d) },
+  stored room (r .end) (lineOf (r .number) answer d),
+)
 
 -- what a caller knows of a setup that the file opens
 pub record Opened (s : Setup) : Type 0 where

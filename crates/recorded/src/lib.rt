@@ -79,17 +79,20 @@ pub fn setup_line(answer: u32) -> [u8; SETUP_LINE]
     requires { ⌜ answer < ten ⌝ }
     ensures { λ r. ⌜ r ≡ setupLine answer ⌝ }
 {
-    [b's', b'e', b't', b'u', b'p', b' ', b'0' + (answer as u8), b'\n']
+    [
+        b's',
+        b'e',
+        b't',
+        b'u',
+        b'p',
+        b' ',
+        b'0' + (answer as u8),
+        b'\n',
+    ]
 }
 
 // A run before its first record: a fresh start over memory of zeros.
-pub fn begin(
-    s: Setup,
-    memory: &[u32],
-    rows: &mut [u32],
-    entries: &[u32],
-    heads: &mut [u32],
-) -> Run
+pub fn begin(s: Setup, memory: &[u32], rows: &mut [u32], entries: &[u32], heads: &mut [u32]) -> Run
     requires { ⌜ Opened s × (lent (now memory) (now rows) (now entries) (now heads) ≡ zerosFor s) ⌝ }
     ensures { λ r. ⌜ (r, lent (now (memory .entry)) (now (rows .exit)) (now (entries .entry)) (now (heads .exit))) ≡ begun s ⌝ }
 {
@@ -148,7 +151,15 @@ fn one(
 {
     let state = r.state;
     let OperationRecord::Good(op) = records::read_operation(bytes) else {
-        return print(r, state, answers::BAD_RECORD, Delivery::None, false, table, out);
+        return print(
+            r,
+            state,
+            answers::BAD_RECORD,
+            Delivery::None,
+            false,
+            table,
+            out,
+        );
     };
     let cycled = controller::cycle(s, state, op, memory, rows, entries, heads);
     let reply = cycled.reply;
@@ -190,7 +201,17 @@ pub fn part(
     while i < count && r.on {
         let from = records::OPERATION_BYTES * i;
         let to = least(from + records::OPERATION_BYTES, input.len());
-        r = one(s, r, &input[from..to], memory, rows, entries, heads, table, out);
+        r = one(
+            s,
+            r,
+            &input[from..to],
+            memory,
+            rows,
+            entries,
+            heads,
+            table,
+            out,
+        );
         i += 1;
     }
     r

@@ -26,12 +26,13 @@ slice-aggregate-cut-6 : tie.Need-slice-aggregate-cut-6
 slice-aggregate-cut-6 c = search needs
 
 cut-requires : tie.Need-cut-requires
-cut-requires c κs =
-    (search needs,
-    refl,
-    search needs,
-    search needs,
-    search needs)
+cut-requires c κs = (
+  search needs,
+  refl,
+  search needs,
+  search needs,
+  search needs,
+)
 
 returns : tie.Need-returns
 returns c = search needs

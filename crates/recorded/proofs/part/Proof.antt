@@ -68,16 +68,17 @@ loop-again : tie.Need-loop-again Inv-loop μ-loop
 loop-again c =
     let one = c .before .before .before .before .before .before .before .before .before .before in
     let turn = one .before .before .before .before .before .before .before in
-    let loop = turn .before .before .before in
-    (omega arith,
-    omega (arith, one .one .ensures .1, loop .loop .inv .1),
-    number-next _ _ _ _ _ _ _ _ _ _ (one .one .ensures .0) (loop .loop .inv .2),
-    search needs,
-    search needs,
-    search needs,
-    search needs,
-    search needs,
-    listed-next _ _ _ _ _ _ _ _ (loop .loop .inv .8) _ (turn .before .if1 .taken) (record-cut _ _ _ _ refl (turn .least .ensures) (omega arith)) (one .one .ensures .0))
+    let loop = turn .before .before .before in (
+      omega arith,
+      omega (arith, one .one .ensures .1, loop .loop .inv .1),
+      number-next _ _ _ _ _ _ _ _ _ _ (one .one .ensures .0) (loop .loop .inv .2),
+      search needs,
+      search needs,
+      search needs,
+      search needs,
+      search needs,
+      listed-next _ _ _ _ _ _ _ _ (loop .loop .inv .8) _ (turn .before .if1 .taken) (record-cut _ _ _ _ refl (turn .least .ensures) (omega arith)) (one .one .ensures .0),
+    )
 
 same-length : tie.Need-same-length Inv-loop μ-loop
 same-length c = search needs
