@@ -77,7 +77,7 @@ loop-again c =
       search needs,
       search needs,
       search needs,
-      listed-next _ _ _ _ _ _ _ _ (loop .loop .inv .8) _ (turn .before .if1 .taken) (record-cut _ _ _ _ refl (turn .least .ensures) (omega arith)) (one .one .ensures .0),
+      listed-next _ _ _ _ _ _ _ _ (loop .loop .inv .8) _ (turn .before .if1 .taken) (record-cut _ (loop .loop .i) _ _ refl (turn .least .ensures) (omega arith)) (one .one .ensures .0),
     )
 
 same-length : tie.Need-same-length Inv-loop μ-loop
