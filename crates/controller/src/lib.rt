@@ -20,7 +20,7 @@ use setup::Checked;
 use setup::Setup;
 
 // Whether every lent length is exact.
-fn lengths_ok(s: Setup, memory: &[u32], rows: &[u32], entries: &[u32], heads: &[u32]) -> bool
+pub fn lengths_ok(s: Setup, memory: &[u32], rows: &[u32], entries: &[u32], heads: &[u32]) -> bool
     requires { ⌜ Ranges s ⌝ }
     ensures { λ r. ⌜ r ≡ lengthsOk s (lent (now (memory .entry)) (now (rows .entry)) (now (entries .entry)) (now (heads .entry))) ⌝ }
 {

@@ -46,6 +46,7 @@ use Rattle.model.proofs.Config.{configOf, legal, shownOp}
 use Rattle.model.proofs.Shown.{shown}
 use Rattle.model.proofs.Shows.{waiting-shown, on-shown}
 use Rattle.model.proofs.Booked.{booked-waits}
+use Rattle.model.proofs.BookedRuns.{booked-append}
 use Rattle.model.proofs.Tracks.{Tracks, tracks-fresh, tracks-reply, tracks-after}
 
 ------------------------------------------------------------------------
@@ -243,11 +244,6 @@ never-bad-state g w ops op h = go (tells-run g w ops op h)
 
 -- past only grows, at its front
 module _ (s : Setup) (start : Address → ℕ) where
-  booked-append : (ops more : List Operation) (l : Ledger) → booked s start (ops ++ more) l ≡ booked s start more (booked s start ops l)
-  unfolding booked
-  booked-append [] more l = refl
-  booked-append (op ∷ ops) more l = booked-append ops more (entered s start op l .1)
-
   Grown : List Operation → List Operation → Type 0
   Grown past now = (extra : List Operation) × (now ≡ extra ++ past)
 

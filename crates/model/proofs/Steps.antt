@@ -79,10 +79,6 @@ given-past : (n : Need) (l : Ledger) → given n l .past ≡ l .past
 given-past nowhere l = refl
 given-past (at b) l = refl
 
-given-halted : (n : Need) (l : Ledger) → given n l .halted ≡ l .halted
-given-halted nowhere l = refl
-given-halted (at b) l = refl
-
 -- past after a call: the operation where it is taken, idle where it is dropped, else as before
 module _ (s : Setup) (op : Operation) (d : Delivery) (stamp : ℕ) where
   landed-past : (l : Ledger) (f : Bool) (w : Reply × Ledger)

@@ -46,11 +46,11 @@ module _ (s : List ℕ) where
   unfolding operationOf
   wrong-zeros h z = cc (eq-eqb (length s) operationSize h)
 
-  pub right : (address word : ℕ) (r : OperationRecord) → length s ≡ operationSize → operationZeros s ≡ true
-      → address ≡ numberAt 4 s 4 → word ≡ numberAt 4 s 8 → r ≡ operationFrom (byteAt s 0) address word
+  pub right : (kind address word : ℕ) (r : OperationRecord) → length s ≡ operationSize → operationZeros s ≡ true
+      → kind ≡ byteAt s 0 → address ≡ numberAt 4 s 4 → word ≡ numberAt 4 s 8 → r ≡ operationFrom kind address word
       → r ≡ operationOf s
   unfolding operationOf
-  right address word r h z e₀ e₁ e₂ = cc (eq-eqb (length s) operationSize h)
+  right kind address word r h z e e₀ e₁ e₂ = cc (eq-eqb (length s) operationSize h)
 
 ------------------------------------------------------------------------
 -- Writing

@@ -1,11 +1,11 @@
 // The house records: fixed size, no header, little-endian.
 ghost use mathlib.Core.Path.{_≡_};
-ghost use Prim.Native.Nat.{_≤_};
+ghost use Prim.Native.Nat.{_≤_, _<_};
 ghost use mathlib.Core.List.{[], _∷_, _++_};
 ghost use lib.ListN.{length};
 ghost use lib.Seq.{sets};
 ghost use Rattle.answers.specs.Answers.{done};
-ghost use Rattle.records.specs.Records.{bytesOf, zeros, goodIf, operationSize, operationFrom, operationOf, operationLayout, operationWritten, setupSize, setupFields, allowed, setupOf, setupBytes, setupWritten};
+ghost use Rattle.records.specs.Records.{base, bytesOf, zeros, goodIf, operationSize, operationFrom, operationOf, operationLayout, operationWritten, setupSize, setupFields, allowed, setupOf, setupBytes, setupWritten};
 
 mod little_endian;
 
@@ -13,6 +13,7 @@ use little_endian::four_at;
 use little_endian::put_four;
 use little_endian::put_two;
 use little_endian::two_at;
+use little_endian::wide;
 use map::Address;
 use port::Operation;
 use setup::Checked;
@@ -32,11 +33,11 @@ pub enum SetupRecord {
 
 pub const OPERATION_BYTES: usize = 12;
 
-const KIND_IDLE: u8 = 0;
+pub const KIND_IDLE: u32 = 0;
 
-const KIND_READ: u8 = 1;
+pub const KIND_READ: u32 = 1;
 
-const KIND_WRITE: u8 = 2;
+pub const KIND_WRITE: u32 = 2;
 
 // Past the kind and three zero bytes.
 const ADDRESS_AT: usize = 4;
@@ -69,7 +70,7 @@ fn good_if(test: bool, op: Operation) -> OperationRecord
 }
 
 // The operation that a record's numbers mean.
-fn operation_from(kind: u8, address: u32, word: u32) -> OperationRecord
+pub fn operation_from(kind: u32, address: u32, word: u32) -> OperationRecord
     ensures { λ r. ⌜ r ≡ operationFrom kind address word ⌝ }
 {
     if kind == KIND_IDLE {
@@ -90,7 +91,7 @@ pub fn read_operation(bytes: &[u8]) -> OperationRecord
     }
     if (bytes[1] == 0) & (bytes[2] == 0) & (bytes[3] == 0) {
         operation_from(
-            bytes[0],
+            wide(bytes[0]),
             four_at(bytes, ADDRESS_AT),
             four_at(bytes, WORD_AT),
         )
@@ -111,11 +112,11 @@ fn put_first(room: &mut [u8], b0: u8, b1: u8, b2: u8, b3: u8)
 }
 
 // Fills a room of an operation's size.
-fn put_operation(room: &mut [u8], kind: u8, address: u32, word: u32) -> u32
-    requires { ⌜ length (now room) ≡ operationSize ⌝ }
+fn put_operation(room: &mut [u8], kind: u32, address: u32, word: u32) -> u32
+    requires { ⌜ (length (now room) ≡ operationSize) × (kind < base) ⌝ }
     ensures { λ r. ⌜ (r ≡ done) × (now (room .exit) ≡ operationLayout kind address word) ⌝ }
 {
-    put_first(room, kind, 0, 0, 0);
+    put_first(room, kind as u8, 0, 0, 0);
     put_four(room, ADDRESS_AT, address);
     put_four(room, WORD_AT, word);
     answers::DONE

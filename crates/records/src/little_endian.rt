@@ -9,7 +9,7 @@ ghost use Rattle.records.specs.Records.{base, numberAt, bytesOf};
 const BASE: u32 = 256;
 
 // A byte as a number.
-fn wide(byte: u8) -> u32
+pub fn wide(byte: u8) -> u32
     ensures { λ r. ⌜ (r ≡ byte) × (r < base) ⌝ }
 {
     byte as u32

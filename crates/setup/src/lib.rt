@@ -3,6 +3,7 @@ ghost use mathlib.Core.Path.{_≡_};
 ghost use Prim.Native.Nat.{_^_, _<_};
 ghost use Rattle.setup.specs.Setup.{wordsOf, banksOf, leastDelta, orDefault, withDefaults, sizesOk, restOk, checkedOf, Sizes};
 
+#[repr(C)]
 pub struct Setup {
     // 0 plain, 1 merging.
     pub mode: u8,

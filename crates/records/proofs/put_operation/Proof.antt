@@ -4,6 +4,9 @@ use Rattle.records.proofs.Operation.{stored}
 use Rattle.records.proofs.put_operation.Statement.{statement}
 use Rattle.records.proofs.put_operation.Tie as tie
 
+cast-put-first : tie.Need-cast-put-first
+cast-put-first c = search needs
+
 put-first-requires : tie.Need-put-first-requires
 put-first-requires c κs = search needs
 
@@ -22,4 +25,10 @@ returns c = search (stored)
 pub put-operation-spec : {M : Type 1} → statement M
 put-operation-spec =
     tie.close
-    (tie.spec put-first-requires put-four-requires put-four-requires-2 same-length returns)
+    (tie.spec
+    cast-put-first
+    put-first-requires
+    put-four-requires
+    put-four-requires-2
+    same-length
+    returns)

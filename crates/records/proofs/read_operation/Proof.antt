@@ -16,8 +16,11 @@ shared-slice-read-if2-2 c = search needs
 shared-slice-read-if2-3 : tie.Need-shared-slice-read-if2-3
 shared-slice-read-if2-3 c = search needs
 
-shared-slice-read-operation-from : tie.Need-shared-slice-read-operation-from
-shared-slice-read-operation-from c = search needs
+shared-slice-read-wide : tie.Need-shared-slice-read-wide
+shared-slice-read-wide c = search needs
+
+wide-requires : tie.Need-wide-requires
+wide-requires c κs = search needs
 
 four-at-requires : tie.Need-four-at-requires
 four-at-requires c κs = search needs
@@ -42,7 +45,8 @@ read-operation-spec =
     shared-slice-read-if2
     shared-slice-read-if2-2
     shared-slice-read-if2-3
-    shared-slice-read-operation-from
+    shared-slice-read-wide
+    wide-requires
     four-at-requires
     four-at-requires-2
     operation-from-requires
