@@ -60,7 +60,7 @@ static const char *meaning(uint32_t answer)
 }
 
 /* Says what a call answered after so many cycles, and ends the program. */
-static _Noreturn void end_at(uint64_t cycles, const char *call, uint32_t answer, int status)
+static _Noreturn void give_up(uint64_t cycles, const char *call, uint32_t answer, int status)
 {
     fprintf(stderr, "linecard: %s, after %" PRIu64 " cycles: answer %" PRIu32 ", %s\n", call, cycles, answer, meaning(answer));
     exit(status);
@@ -81,14 +81,14 @@ static void *zeros(size_t count, size_t size)
 static struct port open_port(ridkostan_setup setup)
 {
     ridkostan_checked checked = ridkostan_check(setup);
-    if (checked.answer != RIDKOSTAN_DONE) end_at(0, "ridkostan_check", checked.answer, BAD_INPUT);
+    if (checked.answer != RIDKOSTAN_DONE) give_up(0, "ridkostan_check", checked.answer, BAD_INPUT);
     struct port p = {.setup = checked.setup, .lent = ridkostan_lengths(checked.setup)};
     p.memory = zeros((size_t)p.lent.memory + p.lent.rows + p.lent.entries + p.lent.heads, sizeof *p.memory);
     p.rows = p.memory + p.lent.memory;
     p.entries = p.rows + p.lent.rows;
     p.heads = p.entries + p.lent.entries;
     ridkostan_started started = ridkostan_fresh_start(p.setup, p.state, ROOMS(&p));
-    if (started.answer != RIDKOSTAN_DONE) end_at(0, "ridkostan_fresh_start", started.answer, NO_SERVICE);
+    if (started.answer != RIDKOSTAN_DONE) give_up(0, "ridkostan_fresh_start", started.answer, NO_SERVICE);
     p.state = started.state;
     return p;
 }
@@ -102,7 +102,7 @@ static ridkostan_reply cycle(struct port *p, ridkostan_operation operation)
     switch (cycled.reply.answer) {
     case RIDKOSTAN_DONE: break;
     case RIDKOSTAN_DROPPED: p->drops++; break;
-    default: end_at(p->cycles, "ridkostan_cycle", cycled.reply.answer, NO_SERVICE);
+    default: give_up(p->cycles, "ridkostan_cycle", cycled.reply.answer, NO_SERVICE);
     }
     p->cycles++;
     return cycled.reply;
@@ -114,7 +114,7 @@ static void drain(struct port *p)
     for (uint32_t i = 0; i < p->setup.c; i++) cycle(p, idle);
     for (uint32_t bank = 0; bank < UINT32_C(1) << p->setup.s;) {
         ridkostan_told told = ridkostan_waiting(p->setup, p->state, bank, ROOMS(p));
-        if (told.answer != RIDKOSTAN_DONE) end_at(p->cycles, "ridkostan_waiting", told.answer, NO_SERVICE);
+        if (told.answer != RIDKOSTAN_DONE) give_up(p->cycles, "ridkostan_waiting", told.answer, NO_SERVICE);
         if (told.count == 0)
             bank++;
         else
@@ -300,9 +300,23 @@ static bool set_number(const char *text, uint32_t n[NUMBERS])
     return false;
 }
 
-/* A number that is too large for its field becomes the largest there: the controller refuses that as well. */
+/* A number that is too large for its field becomes the largest there, which is out of range as well. */
 static uint8_t small(uint32_t n) { return n < UINT8_MAX ? (uint8_t)n : UINT8_MAX; }
 static uint16_t middling(uint32_t n) { return n < UINT16_MAX ? (uint16_t)n : UINT16_MAX; }
+
+/* Counts every packet of the source, behind the port and in the plain array, and tells how many there were. */
+static uint64_t count_packets(struct card *card, struct source *source, struct plain *plain)
+{
+    for (uint64_t packets = 0;; step(card)) {
+        if (!card->in_hand && (source->file != NULL ? read_packet : make_packet)(source, &card->packet)) {
+            card->in_hand = true;
+            packets++;
+            plain[card->packet.flow].packets++;
+            plain[card->packet.flow].bytes += card->packet.bytes;
+        }
+        if (!card->in_hand && card->count == 0) return packets; /* none comes, and no update is in flight */
+    }
+}
 
 int main(int argc, char **argv)
 {
@@ -316,14 +330,6 @@ int main(int argc, char **argv)
         }
         if (file) source.name = argv[i];
     }
-    ridkostan_setup setup = {small(n[MODE]), small(n[A]), small(n[S]), small(n[M]), middling(n[K]), middling(n[DELTA]),
-                             middling(n[C]), n[U], n[V]};
-    struct card card = {.port = open_port(setup), .naive = n[NAIVE] != 0};
-    card.places = card.port.setup.delta + UINT32_C(1);
-    card.updates = zeros(card.places, sizeof *card.updates);
-    struct plain *plain = zeros(card.port.lent.memory, sizeof *plain);
-    source.flows = card.port.lent.memory;
-    source.left = n[PACKETS];
     if (source.name != NULL) {
         source.file = strcmp(source.name, "-") == 0 ? stdin : fopen(source.name, "r");
         if (source.file == NULL) {
@@ -331,20 +337,17 @@ int main(int argc, char **argv)
             return BAD_INPUT;
         }
     }
+    ridkostan_setup setup = {small(n[MODE]), small(n[A]), small(n[S]), small(n[M]), middling(n[K]), middling(n[DELTA]),
+                             middling(n[C]), n[U], n[V]};
+    struct card card = {.port = open_port(setup), .naive = n[NAIVE] != 0};
+    card.places = card.port.setup.delta + UINT32_C(1);
+    card.updates = zeros(card.places, sizeof *card.updates);
+    source.flows = card.port.lent.memory;
+    source.left = n[PACKETS];
+    struct plain *plain = zeros(source.flows, sizeof *plain);
 
-    uint64_t packets = 0;
-    for (;;) {
-        if (!card.in_hand && (source.file ? read_packet : make_packet)(&source, &card.packet)) {
-            card.in_hand = true;
-            packets++;
-            plain[card.packet.flow].packets++;
-            plain[card.packet.flow].bytes += card.packet.bytes;
-        }
-        if (!card.in_hand && card.count == 0) break; /* no packet comes, and no update is in flight */
-        step(&card);
-    }
+    uint64_t packets = count_packets(&card, &source, plain);
     drain(&card.port);
-
     uint32_t wrong = report(&card.port, plain);
     printf("%" PRIu64 " packets; %" PRIu64 " joined an update in flight\n", packets, card.joined);
     printf("%" PRIu64 " cycles; %" PRIu64 " operations dropped and offered again\n", card.port.cycles, card.port.drops);

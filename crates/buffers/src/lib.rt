@@ -50,28 +50,41 @@ fn push(part: &mut [u32], k: usize, oldest: u32, count: u32, e: Entry)
     put_four(part, at, e.kind, e.row, cell.0, e.word);
 }
 
-// A kind that is coded, a cell below n, and of a read entry a row below c.
-fn entry_ok(n: u32, c: u32, e: Entry) -> bool
-    ensures { λ r. ⌜ r ≡ entryOk n c e ⌝ }
+// A kind that is coded, a cell below n, and of a read entry a row below c. A write entry names row 0, so the last test nearly never comes to the kind.
+fn entry_ok(part: &[u32], i: usize, n: u32, c: u32) -> bool
+    requires { ⌜ 4 * i + 4 ≤ length (now part) ⌝ }
+    ensures { λ r. ⌜ r ≡ entryOk n c (entryAt (now (part .entry)) i) ⌝ }
 {
-    let cell = e.cell;
-    (e.kind <= Entry::WRITE) & (cell.0 < n) & ((e.kind != Entry::READ) | (e.row < c))
+    let at = 4 * i;
+    let kind = part[at];
+    if Entry::WRITE < kind {
+        return false;
+    }
+    if n <= part[at + 2] {
+        return false;
+    }
+    if part[at + 1] < c {
+        return true;
+    }
+    kind != Entry::READ
 }
 
-// The `count` waiting entries, from the oldest on. There is no early exit: nearly every call passes.
+// The `count` waiting entries, from the oldest on.
 fn part_ok(part: &[u32], k: usize, oldest: u32, count: u32, n: u32, c: u32) -> bool
     requires { ⌜ (length (now part) ≡ 4 * k) × (oldest < k) × (count ≤ k) × (k ≤ 128) ⌝ }
     ensures { λ r. ⌜ r ≡ partOk n c k oldest (now (part .entry)) count ⌝ }
 {
-    let mut ok = true;
+    let mut at = oldest as usize;
     let mut i: u32 = 0;
     while i < count {
-        let at = onward(k, oldest as usize, i as usize);
-        let e = entry_at(part, at);
-        ok = ok & entry_ok(n, c, e);
-        i += 1;
+        if entry_ok(part, at, n, c) {
+            at = onward(k, at, 1);
+            i += 1;
+        } else {
+            return false;
+        }
     }
-    ok
+    true
 }
 
 // The heads: two numbers a bank, the oldest place and the count.
@@ -203,11 +216,13 @@ pub fn buffers_ok(s: Setup, entries: &[u32], heads: &[u32]) -> bool
     ensures { λ r. ⌜ r ≡ buffersOk s (buffersIn (now (entries .entry)) (now (heads .entry))) (banksOf s) ⌝ }
 {
     let banks = s.banks() as usize;
-    let mut ok = true;
     let mut b: usize = 0;
     while b < banks {
-        ok = ok & buffer_ok(s, b, entries, heads);
-        b += 1;
+        if buffer_ok(s, b, entries, heads) {
+            b += 1;
+        } else {
+            return false;
+        }
     }
-    ok
+    true
 }

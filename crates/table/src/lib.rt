@@ -1,11 +1,12 @@
 // The reservation table: c rows in lent room, four numbers a row.
 ghost use mathlib.Core.Path.{_≡_};
+ghost use mathlib.Core.Bool.{true};
 ghost use Prim.Native.Nat.{_+_, _-_, _*_, _≤_, _<_};
 ghost use lib.ListN.{length};
 ghost use Rattle.model.specs.Lent.{rowAt, putRow};
 ghost use Rattle.model.specs.Cycle.{lacks, withWord, filledRow, filledBelow, scan, isOf, writes};
 ghost use Rattle.model.specs.Range.{rowOk, rowsOk};
-ghost use Rattle.table.specs.Table.{wanted, Within};
+ghost use Rattle.table.specs.Table.{wanted, Within, Joined, FourOk};
 use map::Address;
 use model::Found;
 use model::Row;
@@ -146,17 +147,67 @@ fn row_ok(r: Row, n: u32, c: u32) -> bool
         & ((r.kind != Row::WAITING) | (r.link < c))
 }
 
-// Every row is in range. The loop has no way out before the last row, so that several can be looked at together.
+// The numbers at one place in each of four rows, put together: none of them is more.
+fn joined(rows: &[u32], at: usize) -> u32
+    requires { ⌜ at + 12 < length (now rows) ⌝ }
+    ensures { λ r. ⌜ Joined r (now (rows .entry)) at ⌝ }
+{
+    (rows[at] | rows[at + 4]) | (rows[at + 8] | rows[at + 12])
+}
+
+// Four rows from place i whose numbers are in range whatever their kinds are. In a run that is every row, so this is quick;
+// of rows that no run leaves it may say no though they are in range.
+fn four_ok(rows: &[u32], i: usize, n: u32, c: u32) -> bool
+    requires { ⌜ (4 * (i + 4) ≤ length (now rows)) × (i < 4096) ⌝ }
+    ensures { λ yes. ⌜ (yes ≡ true → FourOk n c (now (rows .entry)) i) ⌝ }
+{
+    let at = 4 * i;
+    if Row::WAITING < joined(rows, at) {
+        return false;
+    }
+    if n <= joined(rows, at + 1) {
+        return false;
+    }
+    if c <= rows[at + 3] {
+        return false;
+    }
+    if c <= rows[at + 7] {
+        return false;
+    }
+    if c <= rows[at + 11] {
+        return false;
+    }
+    rows[at + 15] < c
+}
+
+// How far the rows are in range by fours.
+fn fours_ok(rows: &[u32], c: usize, n: u32) -> usize
+    requires { ⌜ (length (now rows) ≡ 4 * c) × (c ≤ 4096) ⌝ }
+    ensures { λ r. ⌜ (r ≤ c) × (rowsOk n c (now (rows .entry)) r ≡ true) ⌝ }
+{
+    let mut i = 0;
+    while i + 4 <= c {
+        if four_ok(rows, i, n, c as u32) {
+            i = i + 4;
+        } else {
+            return i;
+        }
+    }
+    i
+}
+
+// Every row is in range: by fours as far as that goes, the rest one by one.
 pub fn rows_ok(rows: &[u32], c: usize, n: u32) -> bool
     requires { ⌜ (length (now rows) ≡ 4 * c) × (c ≤ 4096) ⌝ }
     ensures { λ r. ⌜ r ≡ rowsOk n c (now (rows .entry)) c ⌝ }
 {
-    let mut ok = true;
-    let mut i = 0;
+    let mut i = fours_ok(rows, c, n);
     while i < c {
-        let r = row_at(rows, i);
-        ok = ok & row_ok(r, n, c as u32);
-        i = i + 1;
+        if row_ok(row_at(rows, i), n, c as u32) {
+            i = i + 1;
+        } else {
+            return false;
+        }
     }
-    ok
+    true
 }

@@ -1,20 +1,20 @@
--- `buffers::buffers_ok` meets its contract. The loop's invariant: `ok` says whether the buffers of the banks below b are in range. Assumes nothing.
-use Prim.Native.Nat.{_≤_, _-_}
-use mathlib.Core.Path.{_≡_}
-use native.Mathlib.Omega.{arith}
+-- `buffers::buffers_ok` meets its contract. The loop's invariant: the buffers of the banks below b are in range. Assumes nothing.
 use borrow.Author.Needs.{needs}
-use Rattle.setup.specs.Setup.{banksOf}
+use Prim.Native.Nat.{_≤_, _-_}
+use mathlib.Core.Path.{_≡_, refl}
+use mathlib.Core.Bool.{true}
+use native.Mathlib.Omega.{arith}
 use Rattle.model.specs.Lent.{buffersIn}
 use Rattle.model.specs.Range.{buffersOk}
-use Rattle.buffers.proofs.Waiting.{buffers-next}
+use Rattle.buffers.proofs.Waiting.{buffers-more, buffers-out, buffers-all}
 use Rattle.buffers.proofs.buffers_ok.Statement.{statement}
 use Rattle.buffers.proofs.buffers_ok.Tie as tie
 
 abbrev Inv-loop : tie.InvT-loop
-Inv-loop s entries heads banks ok₀ b₀ ok b = (b ≤ banks) × (ok ≡ buffersOk s (buffersIn entries heads) b)
+Inv-loop s entries heads banks b₀ b = (b ≤ banks) × (buffersOk s (buffersIn entries heads) b ≡ true)
 
 abbrev μ-loop : tie.MeasureT-loop
-μ-loop s entries heads banks ok₀ b₀ ok b = banks - b
+μ-loop s entries heads banks b₀ b = banks - b
 
 banks-requires : tie.Need-banks-requires Inv-loop μ-loop
 banks-requires c κs = search needs
@@ -24,7 +24,7 @@ cast-banks c = search needs
 
 loop-holds : tie.Need-loop-holds Inv-loop μ-loop
 unfolding buffersOk
-loop-holds c = search needs
+loop-holds c = (omega arith, refl)
 
 buffer-ok-requires : tie.Need-buffer-ok-requires Inv-loop μ-loop
 buffer-ok-requires c κs = search needs
@@ -36,12 +36,13 @@ loop-less : tie.Need-loop-less Inv-loop μ-loop
 loop-less c = search needs
 
 loop-again : tie.Need-loop-again Inv-loop μ-loop
-loop-again c = (search needs, buffers-next _ _ _ _ _ (c .before .before .loop .inv .1) (c .buffer-ok .ensures))
+loop-again c = (omega arith, search (buffers-more))
 
 returns : tie.Need-returns Inv-loop μ-loop
-returns c =
-    let e : c .before .loop .b ≡ banksOf (c .before .before .before .before .before .args .s) = omega arith in
-    rw e at (c .before .loop .inv .1)
+returns c = search (buffers-out)
+
+returns-2 : tie.Need-returns-2 Inv-loop μ-loop
+returns-2 c = search (buffers-all)
 
 pub buffers-ok-spec : {M : Type 1} → statement M
 buffers-ok-spec =
@@ -56,4 +57,5 @@ buffers-ok-spec =
     add-b
     loop-less
     loop-again
-    returns)
+    returns
+    returns-2)

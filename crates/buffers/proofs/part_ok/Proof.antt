@@ -1,34 +1,30 @@
--- `buffers::part_ok` meets its contract. The loop's invariant: `ok` says whether the i oldest entries are in range. Assumes nothing.
-use Prim.Native.Nat.{_≤_, _-_}
-use mathlib.Core.Path.{_≡_}
-use native.Mathlib.Omega.{arith}
+-- `buffers::part_ok` meets its contract. The loop's invariant: the i oldest entries are in range, and the next is at `at`. Assumes nothing.
 use borrow.Author.Needs.{needs}
+use Prim.Native.Nat.{_≤_, _<_, _-_}
+use mathlib.Core.Path.{_≡_, refl}
+use mathlib.Core.Bool.{true}
+use native.Mathlib.Omega.{arith}
+use Rattle.model.specs.Lent.{onward}
 use Rattle.buffers.specs.Part.{partOk}
-use Rattle.buffers.proofs.Waiting.{part-next}
+use Rattle.buffers.proofs.Waiting.{at-first, at-next, part-more, part-out, part-all}
 use Rattle.buffers.proofs.part_ok.Statement.{statement}
 use Rattle.buffers.proofs.part_ok.Tie as tie
 
 abbrev Inv-loop : tie.InvT-loop
-Inv-loop part k oldest count n c ok₀ i₀ ok i = (i ≤ count) × (ok ≡ partOk n c k oldest part i)
+Inv-loop part k oldest count n c at₀ i₀ at i = (i ≤ count) × (at < k) × (at ≡ onward k oldest i) × (partOk n c k oldest part i ≡ true)
 
 abbrev μ-loop : tie.MeasureT-loop
-μ-loop part k oldest count n c ok₀ i₀ ok i = count - i
+μ-loop part k oldest count n c at₀ i₀ at i = count - i
 
 loop-holds : tie.Need-loop-holds Inv-loop μ-loop
 unfolding partOk
-loop-holds c = search needs
-
-cast-onward : tie.Need-cast-onward Inv-loop μ-loop
-cast-onward c = search needs
-
-onward-requires : tie.Need-onward-requires Inv-loop μ-loop
-onward-requires c κs = search needs
-
-entry-at-requires : tie.Need-entry-at-requires Inv-loop μ-loop
-entry-at-requires c κs = search needs
+loop-holds c = (omega arith, omega arith, at-first _ _ (omega arith), refl)
 
 entry-ok-requires : tie.Need-entry-ok-requires Inv-loop μ-loop
 entry-ok-requires c κs = search needs
+
+onward-requires : tie.Need-onward-requires Inv-loop μ-loop
+onward-requires c κs = search needs
 
 add-i : tie.Need-add-i Inv-loop μ-loop
 add-i c = search needs
@@ -37,15 +33,13 @@ loop-less : tie.Need-loop-less Inv-loop μ-loop
 loop-less c = search needs
 
 loop-again : tie.Need-loop-again Inv-loop μ-loop
-loop-again c = (
-  search needs,
-  part-next _ _ _ _ _ _ _ _ _ _ (c .before .before .before .before .loop .inv .1) (c .before .before .onward .ensures .0) (c .before .entry-at .ensures) (c .entry-ok .ensures),
-)
+loop-again c = (omega arith, search needs, search (at-next), search (part-more))
 
 returns : tie.Need-returns Inv-loop μ-loop
-returns c =
-    let e : c .before .loop .i ≡ c .before .before .before .args .count = omega arith in
-    rw e at (c .before .loop .inv .1)
+returns c = search (part-out)
+
+returns-2 : tie.Need-returns-2 Inv-loop μ-loop
+returns-2 c = search (part-all)
 
 pub part-ok-spec : {M : Type 1} → statement M
 part-ok-spec =
@@ -54,11 +48,10 @@ part-ok-spec =
     Inv-loop
     μ-loop
     loop-holds
-    cast-onward
-    onward-requires
-    entry-at-requires
     entry-ok-requires
+    onward-requires
     add-i
     loop-less
     loop-again
-    returns)
+    returns
+    returns-2)

@@ -1,30 +1,24 @@
--- `table::rows_ok` meets its contract. The loop's invariant: ok says whether the rows below i are in range. The measure is the rows that are left. Assumes nothing.
-use Prim.Native.Nat.{ℕ, _+_, _-_, _≤_}
-use native.Mathlib.Numerals.{add-one}
-use native.Mathlib.Omega.{arith}
-use mathlib.Core.Path.{_≡_}
-use mathlib.Core.Bool.{Bool, _&&_}
-use mathlib.Core.List.{List}
+-- `table::rows_ok` meets its contract. The loop's invariant: the rows below i are in range. The measure is the rows that are left. Assumes nothing.
 use borrow.Author.Needs.{needs}
-use Rattle.model.specs.Lent.{rowAt}
-use Rattle.model.specs.Range.{rowOk, rowsOk}
-use Rattle.model.specs.declared.Row.{Row}
+use Prim.Native.Nat.{_-_, _≤_}
+use mathlib.Core.Path.{_≡_}
+use mathlib.Core.Bool.{true}
+use native.Mathlib.Omega.{arith}
+use Rattle.model.specs.Range.{rowsOk}
+use Rattle.table.proofs.Fours.{rows-more, rows-out, rows-all}
 use Rattle.table.proofs.rows_ok.Statement.{statement}
 use Rattle.table.proofs.rows_ok.Tie as tie
 
--- row i is r, and t says whether it is in range
-rows-next : (n c i : ℕ) (l : List ℕ) (r : Row) (t ok : Bool) → ok ≡ rowsOk n c l i → r ≡ rowAt l i → t ≡ rowOk n c r → ok && t ≡ rowsOk n c l (i + 1)
-unfolding rowsOk
-rows-next n c i l r t ok ho hr ht = rw add-one (cc)
-
 abbrev Inv-loop : tie.InvT-loop
-Inv-loop rows c n ok₀ i₀ ok i = (i ≤ c) × (ok ≡ rowsOk n c rows i)
+Inv-loop rows c n i₀ i = (i ≤ c) × (rowsOk n c rows i ≡ true)
 
 abbrev μ-loop : tie.MeasureT-loop
-μ-loop rows c n ok₀ i₀ ok i = c - i
+μ-loop rows c n i₀ i = c - i
+
+fours-ok-requires : tie.Need-fours-ok-requires Inv-loop μ-loop
+fours-ok-requires c κs = search needs
 
 loop-holds : tie.Need-loop-holds Inv-loop μ-loop
-unfolding rowsOk
 loop-holds c = search needs
 
 row-at-requires : tie.Need-row-at-requires Inv-loop μ-loop
@@ -43,12 +37,13 @@ loop-less : tie.Need-loop-less Inv-loop μ-loop
 loop-less c = search needs
 
 loop-again : tie.Need-loop-again Inv-loop μ-loop
-loop-again c = (omega arith, rows-next _ _ _ _ _ _ _ (c .before .before .before .loop .inv .1) (c .before .row-at .ensures) (c .row-ok .ensures))
+loop-again c = (omega arith, search (rows-more))
 
 returns : tie.Need-returns Inv-loop μ-loop
-returns c =
-    let e : c .before .loop .i ≡ c .before .before .before .args .c = omega arith in
-    rw e at (c .before .loop .inv .1)
+returns c = search (rows-out)
+
+returns-2 : tie.Need-returns-2 Inv-loop μ-loop
+returns-2 c = search (rows-all)
 
 pub rows-ok-spec : {M : Type 1} → statement M
 rows-ok-spec =
@@ -56,6 +51,7 @@ rows-ok-spec =
     (tie.spec
     Inv-loop
     μ-loop
+    fours-ok-requires
     loop-holds
     row-at-requires
     cast-row-ok
@@ -63,4 +59,5 @@ rows-ok-spec =
     add-i
     loop-less
     loop-again
-    returns)
+    returns
+    returns-2)
