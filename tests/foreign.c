@@ -71,9 +71,8 @@ static uint32_t nonzero(void)
 /* A number at or above the limit: by one, at the upper end, or only by a high bit, which a cut to fewer bits would lose. */
 static uint32_t beyond(uint32_t limit)
 {
-    static const uint32_t high[] = { 1u << 8, 1u << 16, 1u << 24, 1u << 31 };
-    const uint32_t number = below(limit) + high[below(4)];
-    const uint32_t way = below(4);
+    const uint32_t way = below(4), bit = between(1, 4), low = below(limit);
+    const uint32_t number = low + (1u << (bit < 4 ? 8 * bit : 31));
 
     return way < 2 ? limit : way == 2 ? UINT32_MAX : number < limit ? limit : number;
 }
@@ -252,52 +251,55 @@ static void answered(uint32_t library, uint32_t peer)
         return;
     }
     seen[call][library]++;
-    if (due >= 0)
+    if (due >= 0) {
         is("the answer", library, (uint32_t)due);
-    else if (due == PASSES && is_refusal(library))
-        is("the answer", library, RIDKOSTAN_DONE);
+    } else if (due == PASSES && is_refusal(library)) {
+        say_wrong();
+        printf("the answer is %lu, but nothing is to be refused\n", (unsigned long)library);
+    }
 }
 
-static void same_state(ridkostan_state library, ridkostan_state peer)
+/* Both sides returned the same state, the wanted one if that is known. */
+static void same_state(ridkostan_state library, ridkostan_state peer, const ridkostan_state *wanted)
 {
-    same("the next stamp", library.stamp, peer.stamp);
-    same("the turn", library.turn, peer.turn);
-    same("the position", library.position, peer.position);
-    same("the stop mark", library.stopped, peer.stopped);
+    static const char *const names[4] = { "the next stamp", "the turn", "the position", "the stop mark" };
+    const uint32_t from_library[4] = { library.stamp, library.turn, library.position, library.stopped };
+    const uint32_t from_peer[4] = { peer.stamp, peer.turn, peer.position, peer.stopped };
+
+    for (int i = 0; i < 4; i++)
+        same(names[i], from_library[i], from_peer[i]);
+    if (wanted) {
+        const uint32_t due_numbers[4] = { wanted->stamp, wanted->turn, wanted->position, wanted->stopped };
+        for (int i = 0; i < 4; i++)
+            is(names[i], from_library[i], due_numbers[i]);
+    }
 }
 
-static void is_state(ridkostan_state got, ridkostan_state wanted)
+/* A setup's numbers, with their places and bytes in a record. */
+enum { NUMBERS = 9 };
+static const struct {
+    const char *name;
+    int at, bytes;
+} setup_numbers[NUMBERS] = {
+    { "mode", 0, 1 },      { "a", 1, 1 }, { "s", 2, 1 },  { "m", 3, 1 },  { "K", 4, 2 },
+    { "the delay", 6, 2 }, { "C", 8, 2 }, { "u", 12, 4 }, { "v", 16, 4 },
+};
+
+static uint32_t setup_number(const ridkostan_setup *s, int i)
 {
-    is("the next stamp", got.stamp, wanted.stamp);
-    is("the turn", got.turn, wanted.turn);
-    is("the position", got.position, wanted.position);
-    is("the stop mark", got.stopped, wanted.stopped);
+    const uint32_t numbers[NUMBERS] = { s->mode, s->a, s->s, s->m, s->k, s->delta, s->c, s->u, s->v };
+
+    return numbers[i];
 }
 
-static void same_setup(ridkostan_setup library, ridkostan_setup peer)
+/* Both sides returned the same setup, the wanted one if that is known. */
+static void same_setup(ridkostan_setup library, ridkostan_setup peer, const ridkostan_setup *wanted)
 {
-    same("mode", library.mode, peer.mode);
-    same("a", library.a, peer.a);
-    same("s", library.s, peer.s);
-    same("m", library.m, peer.m);
-    same("K", library.k, peer.k);
-    same("the delay", library.delta, peer.delta);
-    same("C", library.c, peer.c);
-    same("u", library.u, peer.u);
-    same("v", library.v, peer.v);
-}
-
-static void is_setup(ridkostan_setup got, ridkostan_setup wanted)
-{
-    is("mode", got.mode, wanted.mode);
-    is("a", got.a, wanted.a);
-    is("s", got.s, wanted.s);
-    is("m", got.m, wanted.m);
-    is("K", got.k, wanted.k);
-    is("the delay", got.delta, wanted.delta);
-    is("C", got.c, wanted.c);
-    is("u", got.u, wanted.u);
-    is("v", got.v, wanted.v);
+    for (int i = 0; i < NUMBERS; i++) {
+        same(setup_numbers[i].name, setup_number(&library, i), setup_number(&peer, i));
+        if (wanted)
+            is(setup_numbers[i].name, setup_number(&library, i), setup_number(wanted, i));
+    }
 }
 
 /* ---- Setups -------------------------------------------------------------------------------------------------------------*/
@@ -501,7 +503,7 @@ static void draw_contents(void)
             images[r].numbers[i] = any();
 }
 
-/* The numbers that a spoiled state or room had, to be put back after the call. */
+/* Where a room was made bad for a call, and the numbers to be put back there after it. */
 static uint32_t *spoiled, spared[4];
 
 static uint32_t *spoil(uint32_t *at)
@@ -518,7 +520,7 @@ static void put_back(void)
     spoiled = NULL;
 }
 
-/* Makes one number of an entry that waits bad; of its oldest place where nothing waits at any bank from b on. */
+/* Makes a number bad of an entry that waits at bank b or the next one where one does; else a bank's oldest place. */
 static void spoil_entry(uint32_t b)
 {
     while (b < banks - 1 && heads[2 * b + 1] == 0)
@@ -747,8 +749,8 @@ static void try_cycle(void)
     same("the delivery", library.reply.delivery, peer.reply.delivery);
     same("the word", library.reply.word, peer.reply.word);
     same("the stamp", library.reply.stamp, peer.reply.stamp);
-    same_state(library.state, peer.state);
     const int refused = is_refusal(library.reply.answer);
+    same_state(library.state, peer.state, refused ? &t : NULL);
     compare_rooms(refused, refused, refused, refused);
     put_back();
     if (library.reply.delivery != RIDKOSTAN_WORD)
@@ -756,7 +758,6 @@ static void try_cycle(void)
     if (refused) {
         is("the delivery", library.reply.delivery, RIDKOSTAN_NONE);
         is("the stamp", library.reply.stamp, 0);
-        is_state(library.state, t);
     } else if (!wrong) {
         left_by[library.reply.delivery % 3]++;
         state = library.state;
@@ -831,9 +832,8 @@ static void try_fresh_start(void)
     running = SIDES;
 
     answered(library.answer, peer.answer);
-    same_state(library.state, peer.state);
     const int refused = is_refusal(library.answer);
-    is_state(library.state, refused ? t : no_state);
+    same_state(library.state, peer.state, refused ? &t : &no_state);
     compare_rooms(1, refused, 1, refused);
     if (refused || wrong)
         return;
@@ -872,9 +872,7 @@ static void try_check(void)
     running = SIDES;
 
     answered(library.answer, peer.answer);
-    same_setup(library.setup, peer.setup);
-    if (due != UNKNOWN)
-        is_setup(library.setup, due == RIDKOSTAN_DONE ? full : no_setup);
+    same_setup(library.setup, peer.setup, due == UNKNOWN ? NULL : due == RIDKOSTAN_DONE ? &full : &no_setup);
 }
 
 static void try_lengths(void)
@@ -912,16 +910,9 @@ static void put_number(uint8_t *at, uint32_t number, int bytes)
 /* The bytes that docs/INTERFACE.md gives a setup. */
 static void setup_bytes(ridkostan_setup s, uint8_t *at)
 {
-    at[0] = s.mode;
-    at[1] = s.a;
-    at[2] = s.s;
-    at[3] = s.m;
-    put_number(at + 4, s.k, 2);
-    put_number(at + 6, s.delta, 2);
-    put_number(at + 8, s.c, 2);
-    put_number(at + 10, 0, 2);
-    put_number(at + 12, s.u, 4);
-    put_number(at + 16, s.v, 4);
+    memset(at, 0, RIDKOSTAN_SETUP_BYTES);
+    for (int i = 0; i < NUMBERS; i++)
+        put_number(at + setup_numbers[i].at, setup_number(&s, i), setup_numbers[i].bytes);
 }
 
 /* The bytes of an operation; of a kind that is none, too. */
@@ -967,8 +958,7 @@ static void try_read_setup(void)
     running = SIDES;
 
     answered(library.answer, peer.answer);
-    same_setup(library.setup, peer.setup);
-    is_setup(library.setup, library.answer == RIDKOSTAN_DONE ? s : no_setup);
+    same_setup(library.setup, peer.setup, library.answer == RIDKOSTAN_DONE ? &s : &no_setup);
     compare_records(1);
 }
 
@@ -1054,7 +1044,8 @@ static void try_write_operation(void)
 
 /* ---- Groups -------------------------------------------------------------------------------------------------------------*/
 
-enum { SECONDS = 60 };
+/* A group takes far less than a second, emulated too. */
+enum { SECONDS = 30 };
 
 static void try_call(void)
 {
@@ -1170,8 +1161,8 @@ int main(int argc, char **argv)
     for (size_t i = 0; i < sizeof signals / sizeof *signals; i++)
         sigaction(signals[i], &action, NULL);
 
-    /* Ten failures say enough. */
-    for (; passed + failed < wanted && failed < 10; group_seed++) {
+    /* Ten failures say enough, and so does one call that does not end. */
+    for (; passed + failed < wanted && failed < 10 && caught != SIGALRM; group_seed++) {
         alarm(SECONDS);
         if (sigsetjmp(out, 1) == 0)
             try_group();

@@ -5,14 +5,14 @@ use mathlib.Core.Logic.{⊎-elim}
 use mathlib.Core.List.{List}
 use mathlib.Core.Path.{_≡_, refl, sym, ap, _∙_}
 use native.Mathlib.Omega.{arith}
-use lib.Dec.{eqb}
+use lib.Dec.{leb, ltb, eqb}
 use borrow.Author.Tests.{le-leb, lt-leb, lt-ltb, le-ltb}
 use borrow.Rule.Slice.PartMut.{midOf}
 use Rattle.setup.specs.Setup.{wordsOf, banksOf}
 use Rattle.setup.specs.declared.Setup.{Setup}
 use Rattle.model.proofs.Rings.{onward-either, onward-none, onward-below}
-use Rattle.model.specs.Lent.{Buffers, buffersIn, entryWith, entryAt, oldestOf, onward}
-use Rattle.model.specs.Range.{entryOk, entriesOk, bufferOk, buffersOk}
+use Rattle.model.specs.Lent.{Buffers, buffersIn, entryWith, entryAt, oldestOf, countOf, onward}
+use Rattle.model.specs.Range.{entryOk, entriesOk, headOk, bufferOk, buffersOk}
 use Rattle.model.specs.declared.Entry.{Entry}
 use Rattle.places.proofs.Below.{below-more, below-out, below-all}
 use Rattle.buffers.specs.Part.{partOk}
@@ -111,3 +111,13 @@ module _ (n c : ℕ) (e : Entry) where
 
       pub entry-write : (t : Bool) → c ≤ e .row → t ≡ not (eqb (e .kind) 0) → t ≡ entryOk n c e
       entry-write t r q = rw (le-leb (e .kind) 1 h, lt-ltb (e .cell .0) n l, le-ltb (e .row) c r) (q ∙ or-false (not (eqb (e .kind) 0)))
+
+------------------------------------------------------------------------
+-- A head. o and m are its oldest place and count, k is K
+
+module _ (s : Setup) (heads : List ℕ) (b o k : ℕ) (eo : o ≡ oldestOf heads b) (ek : k ≡ s .k) where
+  pub head-in : (m : ℕ) (t : Bool) → m ≡ countOf heads b → o < k → t ≡ leb m k → t ≡ headOk s heads b
+  head-in m t em l et = let z : ltb (oldestOf heads b) (s .k) ≡ true = lt-ltb (oldestOf heads b) (s .k) (omega arith) in cc
+
+  pub head-out : k ≤ o → false ≡ headOk s heads b
+  head-out l = let z : ltb (oldestOf heads b) (s .k) ≡ false = le-ltb (oldestOf heads b) (s .k) (omega arith) in rw z

@@ -3,7 +3,7 @@ ghost use mathlib.Core.Path.{_≡_};
 ghost use Prim.Native.Nat.{_+_, _*_, _≤_, _<_};
 ghost use lib.Dec.{eqb};
 ghost use lib.ListN.{length};
-ghost use Rattle.setup.specs.Setup.{banksOf};
+ghost use Rattle.setup.specs.Setup.{wordsOf, banksOf};
 ghost use Rattle.map.specs.Map.{bankOf};
 ghost use Rattle.model.specs.Lent.{buffersIn, entryAt, putEntry, oldestOf, countOf, putHead, onward};
 ghost use Rattle.model.specs.Cycle.{oldestEntry, popped, placedAt, placed};
@@ -12,6 +12,7 @@ ghost use Rattle.buffers.specs.Part.{partOk};
 ghost use Rattle.buffers.specs.Bank.{Room, Head, Buffer};
 use map::Cell;
 use model::Entry;
+use places::next;
 use places::onward;
 use places::put_four;
 use setup::Setup;
@@ -78,7 +79,7 @@ fn part_ok(part: &[u32], k: usize, oldest: u32, count: u32, n: u32, c: u32) -> b
     let mut i: u32 = 0;
     while i < count {
         if entry_ok(part, at, n, c) {
-            at = onward(k, at, 1);
+            at = next(k, at);
             i += 1;
         } else {
             return false;
@@ -183,12 +184,15 @@ fn head_ok(s: Setup, b: usize, heads: &[u32]) -> bool
     ensures { λ r. ⌜ r ≡ headOk s (now (heads .entry)) b ⌝ }
 {
     let k = s.k as u32;
-    (oldest_at(heads, b) < k) & (count_at(heads, b) <= k)
+    if oldest_at(heads, b) < k {
+        return count_at(heads, b) <= k;
+    }
+    false
 }
 
-// The entries that wait at bank b, whose head is in range.
-fn waiting_ok(s: Setup, b: usize, entries: &[u32], heads: &[u32]) -> bool
-    requires { ⌜ Buffer s b (buffersIn (now entries) (now heads)) ⌝ }
+// The entries that wait at bank b, whose head is in range; of n words.
+fn waiting_ok(s: Setup, n: u32, b: usize, entries: &[u32], heads: &[u32]) -> bool
+    requires { ⌜ Buffer s b (buffersIn (now entries) (now heads)) × (n ≡ wordsOf s) ⌝ }
     ensures { λ r. ⌜ r ≡ entriesOk s (buffersIn (now (entries .entry)) (now (heads .entry))) b (countOf (now (heads .entry)) b) ⌝ }
 {
     let k = s.k as usize;
@@ -196,29 +200,29 @@ fn waiting_ok(s: Setup, b: usize, entries: &[u32], heads: &[u32]) -> bool
     let to = from + 4 * k;
     let oldest = oldest_at(heads, b);
     let count = count_at(heads, b);
-    part_ok(&entries[from..to], k, oldest, count, s.words(), s.c as u32)
+    part_ok(&entries[from..to], k, oldest, count, n, s.c as u32)
 }
 
 // The head first: one out of range would lead to a read outside the part.
-fn buffer_ok(s: Setup, b: usize, entries: &[u32], heads: &[u32]) -> bool
-    requires { ⌜ Room s (buffersIn (now entries) (now heads)) × (b < banksOf s) ⌝ }
+fn buffer_ok(s: Setup, n: u32, b: usize, entries: &[u32], heads: &[u32]) -> bool
+    requires { ⌜ Room s (buffersIn (now entries) (now heads)) × (n ≡ wordsOf s) × (b < banksOf s) ⌝ }
     ensures { λ r. ⌜ r ≡ bufferOk s (buffersIn (now (entries .entry)) (now (heads .entry))) b ⌝ }
 {
     if head_ok(s, b, heads) {
-        return waiting_ok(s, b, entries, heads);
+        return waiting_ok(s, n, b, entries, heads);
     }
     false
 }
 
-// Each of the B buffers.
-pub fn buffers_ok(s: Setup, entries: &[u32], heads: &[u32]) -> bool
-    requires { ⌜ Room s (buffersIn (now entries) (now heads)) ⌝ }
+// Each of the B buffers, of n words.
+pub fn buffers_ok(s: Setup, n: u32, entries: &[u32], heads: &[u32]) -> bool
+    requires { ⌜ Room s (buffersIn (now entries) (now heads)) × (n ≡ wordsOf s) ⌝ }
     ensures { λ r. ⌜ r ≡ buffersOk s (buffersIn (now (entries .entry)) (now (heads .entry))) (banksOf s) ⌝ }
 {
     let banks = s.banks() as usize;
     let mut b: usize = 0;
     while b < banks {
-        if buffer_ok(s, b, entries, heads) {
+        if buffer_ok(s, n, b, entries, heads) {
             b += 1;
         } else {
             return false;

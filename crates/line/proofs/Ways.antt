@@ -1,9 +1,9 @@
 -- The ways through the calls that C makes: what each return knows. Assumes nothing.
-use Prim.Native.Nat.{ℕ, _≤_, _<_}
-use mathlib.Core.Path.{_≡_, ap, _∙_}
+use Prim.Native.Nat.{ℕ}
+use mathlib.Core.Path.{_≡_, sym, ap, _∙_}
 use mathlib.Core.Bool.{Bool, true, false}
 use mathlib.Core.List.{List}
-use borrow.Author.Tests.{eq-eqb, ne-eqb, le-leb, lt-leb}
+use borrow.Author.Tests.{eq-eqb, ne-eqb}
 use Rattle.answers.specs.Answers.{done, badSetup, badLength, badState, badRecord}
 use Rattle.setup.specs.declared.Setup.{Setup}
 use Rattle.setup.specs.declared.Checked.{Checked}
@@ -24,9 +24,9 @@ use Rattle.records.specs.declared.SetupRecord.{SetupRecord}
 use Rattle.line.specs.declared.State.{State}
 use Rattle.line.specs.declared.Started.{Started}
 use Rattle.line.specs.declared.Cycled.{Cycled}
-use Rattle.line.specs.declared.Told.{Told}
+use Rattle.line.specs.declared.Checked as numbered
 use Rattle.line.specs.declared.Operation as numbers
-use Rattle.line.specs.Line.{stateIn, stateOut, startedOut, startWith, startOut, cycledOut, cycledWith, refusedBy, badMark, operationIn, offered, cycleIn, cycleOut, told, waitingOut, operationOut, operationRead, operationWrittenOut, noSetup, setupRead}
+use Rattle.line.specs.Line.{checkedOut, markOk, stateIn, stateOut, startedOut, startWith, startOut, cycledOut, cycledWith, refusedBy, badMark, operationIn, offered, cycleIn, cycleOut, told, waitingOut, operationOut, operationRead, operationWrittenOut, setupRead}
 
 ------------------------------------------------------------------------
 -- A fresh start. r is what the controller returned
@@ -69,18 +69,18 @@ module _ (g : Checked) (x : Lent) where
 -- A cycle
 
 module _ (s : Setup) (t : State) (op : Operation) (x : Lent) where
-  pub offer-passed : (y : Lent) (k : kept.State) (q : passing.Cycled) (out : Cycled) → t .stopped ≤ 1
+  pub offer-passed : (y : Lent) (k : kept.State) (q : passing.Cycled) (out : Cycled) (b : Bool) → b ≡ markOk t → b ≡ true
       → k ≡ stateIn t → (q, y) ≡ cycleOf s k op x → out ≡ cycledOut q → (out, y) ≡ offered s t op x
   unfolding offered
-  offer-passed y k q out l ek eq eo =
-      rw (le-leb (t .stopped) 1 l) (go (cycleOf s (stateIn t) op x) (eq ∙ ap (λ (z : kept.State). cycleOf s z op x) ek))
+  offer-passed y k q out b eb h ek eq eo =
+      rw (sym eb ∙ h) (go (cycleOf s (stateIn t) op x) (eq ∙ ap (λ (z : kept.State). cycleOf s z op x) ek))
     where
       go : (w : passing.Cycled × Lent) → (q, y) ≡ w → (out, y) ≡ cycledWith w
       go w e = cc
 
-  pub offer-mark : (out : Cycled) → 1 < t .stopped → out ≡ refusedBy (badMark (checkedOf s) x) t → (out, x) ≡ offered s t op x
+  pub offer-mark : (out : Cycled) (b : Bool) → b ≡ markOk t → b ≡ false → out ≡ refusedBy (badMark (checkedOf s) x) t → (out, x) ≡ offered s t op x
   unfolding offered
-  offer-mark out l eo = rw (lt-leb (t .stopped) 1 l, eo)
+  offer-mark out b eb h eo = rw (sym eb ∙ h, eo)
 
 -- r is what the numbers of the operation mean
 module _ (s : Setup) (t : State) (op : numbers.Operation) (x : Lent) (r : OperationRecord) (er : r ≡ operationIn op) where
@@ -96,14 +96,14 @@ module _ (s : Setup) (t : State) (op : numbers.Operation) (x : Lent) (r : Operat
 -- A question
 
 module _ (s : Setup) (t : State) (b : ℕ) (x : Lent) where
-  pub asked : (k : kept.State) (w : Waiting) → t .stopped ≤ 1 → k ≡ stateIn t → w ≡ waitingOf s k b x
+  pub asked : (k : kept.State) (w : Waiting) (m : Bool) → m ≡ markOk t → m ≡ true → k ≡ stateIn t → w ≡ waitingOf s k b x
       → told (w .answer) (w .count) ≡ waitingOut s t b x
   unfolding waitingOut
-  asked k w l ek ew = cc (le-leb (t .stopped) 1 l)
+  asked k w m em h ek ew = cc
 
-  pub asked-mark : (n : ℕ) → 1 < t .stopped → n ≡ badMark (checkedOf s) x → told n 0 ≡ waitingOut s t b x
+  pub asked-mark : (n : ℕ) (m : Bool) → m ≡ markOk t → m ≡ false → n ≡ badMark (checkedOf s) x → told n 0 ≡ waitingOut s t b x
   unfolding waitingOut
-  asked-mark n l en = cc (lt-leb (t .stopped) 1 l)
+  asked-mark n m em h en = cc
 
 ------------------------------------------------------------------------
 -- Writing an operation. r is what its numbers mean
@@ -128,9 +128,8 @@ module _ (bytes : List ℕ) (r : OperationRecord) (er : r ≡ operationOf bytes)
   read-good o out h e = rw (← er, h, e)
 
 module _ (bytes : List ℕ) (r : SetupRecord) (er : r ≡ setupOf bytes) where
-  pub setup-refused : (s : Setup) → r ≡ SetupRecord.Refused → s ≡ noSetup
-      → record { answer = badSetup; setup = s } ≡ setupRead (setupOf bytes)
-  setup-refused s h e = rw (← er, h, e)
+  pub setup-refused : (out : numbered.Checked) → r ≡ SetupRecord.Refused → out ≡ checkedOut Refused → out ≡ setupRead (setupOf bytes)
+  setup-refused out h e = rw (← er, h) e
 
   pub setup-good : (s : Setup) → r ≡ SetupRecord.Good s
       → record { answer = done; setup = s } ≡ setupRead (setupOf bytes)

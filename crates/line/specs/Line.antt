@@ -150,9 +150,10 @@ waitingOut s t b x =
 ------------------------------------------------------------------------
 -- Records
 
+-- the setup as written, a default given as 0 still 0
 abbrev pub setupRead : SetupRecord → Checked
-setupRead (SetupRecord.Good s) = record { answer = done; setup = s }
-setupRead SetupRecord.Refused = record { answer = badSetup; setup = noSetup }
+setupRead (SetupRecord.Good s) = checkedOut (setup.Checked.Good s)
+setupRead SetupRecord.Refused = checkedOut setup.Checked.Refused
 
 abbrev pub numbers : ℕ → ℕ → ℕ → Operation
 numbers kind address word = record { kind = kind; address = address; word = word }

@@ -1,9 +1,10 @@
 // The calls that C makes: include/ridkostan.h. Numbers stand in place of the enums; each call takes its arguments apart and calls the controller.
 ghost use mathlib.Core.Path.{_≡_};
 ghost use Rattle.setup.specs.Setup.{Ranges, checkedOf};
+ghost use Rattle.setup.specs.declared.Checked.the-variants.{Refused};
 ghost use Rattle.model.specs.Lent.{lent};
 ghost use Rattle.records.specs.Records.{setupOf, setupWritten, operationOf};
-ghost use Rattle.line.specs.Line.{noSetup, checkedOut, lentBy, lengthsIn, stateIn, markOut, stateOut, startedOut, startOut, operationOut, deliveryOut, wordOut, replyOut, cycledOut, refusedBy, badMark, offered, cycleOut, waitingOut, setupRead, operationRead, operationWrittenOut};
+ghost use Rattle.line.specs.Line.{noSetup, checkedOut, lentBy, lengthsIn, markOk, stateIn, markOut, stateOut, startedOut, startOut, operationOut, deliveryOut, wordOut, replyOut, cycledOut, refusedBy, badMark, offered, cycleOut, waitingOut, setupRead, operationRead, operationWrittenOut};
 use setup::Setup;
 
 pub const DELIVERY_NONE: u32 = 0;
@@ -105,16 +106,23 @@ fn no_setup() -> Setup
     }
 }
 
+// Refusal 1 of a setup.
+fn refuse_setup() -> Checked
+    ensures { λ r. ⌜ r ≡ checkedOut Refused ⌝ }
+{
+    Checked {
+        answer: answers::BAD_SETUP,
+        setup: no_setup(),
+    }
+}
+
 // Whether every number of the setup is in range, and the setup with its defaults in.
 #[no_mangle]
 pub extern "C" fn ridkostan_check(setup: Setup) -> Checked
     ensures { λ r. ⌜ r ≡ checkedOut (checkedOf setup) ⌝ }
 {
     let setup::Checked::Good(full) = Setup::checked(setup) else {
-        return Checked {
-            answer: answers::BAD_SETUP,
-            setup: no_setup(),
-        };
+        return refuse_setup();
     };
     Checked {
         answer: answers::DONE,
@@ -152,6 +160,13 @@ pub extern "C" fn ridkostan_lengths(setup: Setup) -> Lent
         };
     };
     lengths_of(s)
+}
+
+// Whether the mark is in range.
+fn mark_ok(t: State) -> bool
+    ensures { λ r. ⌜ r ≡ markOk t ⌝ }
+{
+    t.stopped <= STOPPED
 }
 
 // The state that C passes, its mark in range.
@@ -314,7 +329,7 @@ fn offer(
 ) -> Cycled
     ensures { λ r. ⌜ (r, lent (now (memory .exit)) (now (rows .exit)) (now (entries .exit)) (now (heads .exit))) ≡ offered setup state op (lent (now (memory .entry)) (now (rows .entry)) (now (entries .entry)) (now (heads .entry))) ⌝ }
 {
-    if state.stopped <= STOPPED {
+    if mark_ok(state) {
         let cycled = controller::cycle(setup, state_in(state), op, memory, rows, entries, heads);
         return cycled_out(cycled);
     }
@@ -334,9 +349,11 @@ pub extern "C" fn ridkostan_cycle(
 ) -> Cycled
     ensures { λ r. ⌜ (r, lent (now (memory .exit)) (now (rows .exit)) (now (entries .exit)) (now (heads .exit))) ≡ cycleOut setup state operation (lent (now (memory .entry)) (now (rows .entry)) (now (entries .entry)) (now (heads .entry))) ⌝ }
 {
-    let records::OperationRecord::Good(op) =
-        records::operation_from(operation.kind, operation.address, operation.word)
-    else {
+    let records::OperationRecord::Good(op) = records::operation_from(
+        operation.kind,
+        operation.address,
+        operation.word,
+    ) else {
         return refuse(answers::BAD_RECORD, state);
     };
     offer(setup, state, op, memory, rows, entries, heads)
@@ -355,7 +372,7 @@ pub extern "C" fn ridkostan_waiting(
 ) -> Told
     ensures { λ r. ⌜ r ≡ waitingOut setup state bank (lent (now (memory .entry)) (now (rows .entry)) (now (entries .entry)) (now (heads .entry))) ⌝ }
 {
-    if state.stopped <= STOPPED {
+    if mark_ok(state) {
         let told = controller::waiting(setup, state_in(state), bank, memory, rows, entries, heads);
         return Told {
             answer: told.answer,
@@ -374,10 +391,7 @@ pub extern "C" fn ridkostan_read_setup(bytes: &[u8]) -> Checked
     ensures { λ r. ⌜ r ≡ setupRead (setupOf (now (bytes .entry))) ⌝ }
 {
     let records::SetupRecord::Good(setup) = records::read_setup(bytes) else {
-        return Checked {
-            answer: answers::BAD_SETUP,
-            setup: no_setup(),
-        };
+        return refuse_setup();
     };
     Checked {
         answer: answers::DONE,
@@ -438,9 +452,11 @@ pub extern "C" fn ridkostan_read_operation(bytes: &[u8]) -> Recorded
 pub extern "C" fn ridkostan_write_operation(operation: Operation, room: &mut [u8]) -> u32
     ensures { λ r. ⌜ (r, now (room .exit)) ≡ operationWrittenOut operation (now (room .entry)) ⌝ }
 {
-    let records::OperationRecord::Good(op) =
-        records::operation_from(operation.kind, operation.address, operation.word)
-    else {
+    let records::OperationRecord::Good(op) = records::operation_from(
+        operation.kind,
+        operation.address,
+        operation.word,
+    ) else {
         return answers::BAD_RECORD;
     };
     records::write_operation(op, room)

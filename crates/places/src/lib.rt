@@ -24,6 +24,14 @@ pub fn onward(c: usize, i: usize, n: usize) -> usize
     if i + n < c { i + n } else { i + n - c }
 }
 
+// The place after i, of c.
+pub fn next(c: usize, i: usize) -> usize
+    requires { ⌜ (i < c) × (c ≤ 4096) ⌝ }
+    ensures { λ r. ⌜ (r ≡ onward c i 1) × (r < c) ⌝ }
+{
+    if i + 1 < c { i + 1 } else { 0 }
+}
+
 // n places back from i, of c.
 pub fn back(c: usize, i: usize, n: usize) -> usize
     requires { ⌜ (i < c) × (n ≤ c) × (c ≤ 4096) ⌝ }

@@ -11,10 +11,10 @@ use Rattle.buffers.proofs.buffers_ok.Statement.{statement}
 use Rattle.buffers.proofs.buffers_ok.Tie as tie
 
 abbrev Inv-loop : tie.InvT-loop
-Inv-loop s entries heads banks b₀ b = (b ≤ banks) × (buffersOk s (buffersIn entries heads) b ≡ true)
+Inv-loop s n entries heads banks b₀ b = (b ≤ banks) × (buffersOk s (buffersIn entries heads) b ≡ true)
 
 abbrev μ-loop : tie.MeasureT-loop
-μ-loop s entries heads banks b₀ b = banks - b
+μ-loop s n entries heads banks b₀ b = banks - b
 
 banks-requires : tie.Need-banks-requires Inv-loop μ-loop
 banks-requires c κs = search needs

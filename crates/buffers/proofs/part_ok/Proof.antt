@@ -23,8 +23,8 @@ loop-holds c = (omega arith, omega arith, at-first _ _ (omega arith), refl)
 entry-ok-requires : tie.Need-entry-ok-requires Inv-loop μ-loop
 entry-ok-requires c κs = search needs
 
-onward-requires : tie.Need-onward-requires Inv-loop μ-loop
-onward-requires c κs = search needs
+next-requires : tie.Need-next-requires Inv-loop μ-loop
+next-requires c κs = search needs
 
 add-i : tie.Need-add-i Inv-loop μ-loop
 add-i c = search needs
@@ -49,7 +49,7 @@ part-ok-spec =
     μ-loop
     loop-holds
     entry-ok-requires
-    onward-requires
+    next-requires
     add-i
     loop-less
     loop-again

@@ -37,9 +37,6 @@ part-part-ok-start c = search needs
 part-part-ok-end : tie.Need-part-part-ok-end
 part-part-ok-end c = search needs
 
-words-requires : tie.Need-words-requires
-words-requires c κs = search needs
-
 cast-part-ok : tie.Need-cast-part-ok
 cast-part-ok c = search needs
 
@@ -64,7 +61,6 @@ waiting-ok-spec =
     sub-part-ok
     part-part-ok-start
     part-part-ok-end
-    words-requires
     cast-part-ok
     part-ok-requires
     returns)

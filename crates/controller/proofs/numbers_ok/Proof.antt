@@ -9,11 +9,11 @@ cast-turn c = search needs
 cast-turn-2 : tie.Need-cast-turn-2
 cast-turn-2 c = search needs
 
-cast-rows-ok : tie.Need-cast-rows-ok
-cast-rows-ok c = search needs
-
 words-requires : tie.Need-words-requires
 words-requires c κs = search needs
+
+cast-rows-ok : tie.Need-cast-rows-ok
+cast-rows-ok c = search needs
 
 rows-ok-requires : tie.Need-rows-ok-requires
 rows-ok-requires c κs = search needs
@@ -30,8 +30,8 @@ numbers-ok-spec =
     (tie.spec
     cast-turn
     cast-turn-2
-    cast-rows-ok
     words-requires
+    cast-rows-ok
     rows-ok-requires
     buffers-ok-requires
     returns)

@@ -4,6 +4,9 @@ use Rattle.line.proofs.Ways.{offer-passed, offer-mark}
 use Rattle.line.proofs.offer.Statement.{statement}
 use Rattle.line.proofs.offer.Tie as tie
 
+mark-ok-requires : tie.Need-mark-ok-requires
+mark-ok-requires c κs = search needs
+
 state-in-requires : tie.Need-state-in-requires
 state-in-requires c κs = search needs
 
@@ -50,6 +53,7 @@ pub offer-spec : {M : Type 1} → statement M
 offer-spec =
     tie.close
     (tie.spec
+    mark-ok-requires
     state-in-requires
     cycle-requires
     cycled-out-requires

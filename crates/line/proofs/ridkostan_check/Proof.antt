@@ -12,8 +12,8 @@ enum-known-full c = search needs
 enum-told : tie.Need-enum-told
 enum-told c = search needs
 
-no-setup-requires : tie.Need-no-setup-requires
-no-setup-requires c κs = search needs
+refuse-setup-requires : tie.Need-refuse-setup-requires
+refuse-setup-requires c κs = search needs
 
 returns : tie.Need-returns
 returns c = cc
@@ -24,4 +24,4 @@ returns-2 c = cc
 pub ridkostan-check-spec : {M : Type 1} → statement M
 ridkostan-check-spec =
     tie.close
-    (tie.spec checked-requires enum-known-full enum-told no-setup-requires returns returns-2)
+    (tie.spec checked-requires enum-known-full enum-told refuse-setup-requires returns returns-2)

@@ -13,8 +13,8 @@ enum-known-setup c = search needs
 enum-told : tie.Need-enum-told
 enum-told c = search needs
 
-no-setup-requires : tie.Need-no-setup-requires
-no-setup-requires c κs = search needs
+refuse-setup-requires : tie.Need-refuse-setup-requires
+refuse-setup-requires c κs = search needs
 
 returns : tie.Need-returns
 returns c = search (setup-refused)
@@ -25,4 +25,10 @@ returns-2 c = search (setup-good)
 pub ridkostan-read-setup-spec : {M : Type 1} → statement M
 ridkostan-read-setup-spec =
     tie.close
-    (tie.spec read-setup-requires enum-known-setup enum-told no-setup-requires returns returns-2)
+    (tie.spec
+    read-setup-requires
+    enum-known-setup
+    enum-told
+    refuse-setup-requires
+    returns
+    returns-2)

@@ -4,6 +4,9 @@ use Rattle.line.proofs.Ways.{asked, asked-mark}
 use Rattle.line.proofs.ridkostan_waiting.Statement.{statement}
 use Rattle.line.proofs.ridkostan_waiting.Tie as tie
 
+mark-ok-requires : tie.Need-mark-ok-requires
+mark-ok-requires c κs = search needs
+
 state-in-requires : tie.Need-state-in-requires
 state-in-requires c κs = search needs
 
@@ -21,4 +24,11 @@ returns-2 c = search (asked-mark)
 
 pub ridkostan-waiting-spec : {M : Type 1} → statement M
 ridkostan-waiting-spec =
-    tie.close (tie.spec state-in-requires waiting-requires returns bad-mark-requires returns-2)
+    tie.close
+    (tie.spec
+    mark-ok-requires
+    state-in-requires
+    waiting-requires
+    returns
+    bad-mark-requires
+    returns-2)
