@@ -704,7 +704,26 @@ static void compare_records(int stays)
 
 /* ---- Calls over the rooms -----------------------------------------------------------------------------------------------*/
 
-/* What was made bad is drawn from the last of the refusals to the first, so that the first decides which is due. */
+/* Makes one bad thing or another for the refusals 3, 2 and 1; true where a length is to be wrong. What is made bad is drawn
+ * from the last of the refusals to the first, here and by the callers, so that the first decides which is due. */
+static int draw_refusals(ridkostan_setup *s, ridkostan_state *t)
+{
+    if (!in_range) {
+        due = UNKNOWN;
+    } else if (chance(10)) {
+        spoil_one(t);
+        due = RIDKOSTAN_BAD_STATE;
+    }
+    const int wrong_length = chance(5);
+    if (wrong_length)
+        due = RIDKOSTAN_BAD_LENGTH;
+    if (chance(4)) {
+        *s = bad_setup();
+        due = RIDKOSTAN_BAD_SETUP;
+    }
+    return wrong_length;
+}
+
 static void try_cycle(void)
 {
     ridkostan_setup s = given;
@@ -720,19 +739,7 @@ static void try_cycle(void)
         t.stopped = 1;
     if (t.stopped)
         due = RIDKOSTAN_STOPPED;
-    if (!in_range) {
-        due = UNKNOWN;
-    } else if (chance(10)) {
-        spoil_one(&t);
-        due = RIDKOSTAN_BAD_STATE;
-    }
-    const int wrong_length = chance(5);
-    if (wrong_length)
-        due = RIDKOSTAN_BAD_LENGTH;
-    if (chance(4)) {
-        s = bad_setup();
-        due = RIDKOSTAN_BAD_SETUP;
-    }
+    const int wrong_length = draw_refusals(&s, &t);
     if (chance(4)) {
         operation = bad_operation();
         due = RIDKOSTAN_BAD_RECORD;
@@ -776,19 +783,7 @@ static void try_waiting(void)
         bank = beyond(banks);
         due = RIDKOSTAN_BAD_ADDRESS;
     }
-    if (!in_range) {
-        due = UNKNOWN;
-    } else if (chance(10)) {
-        spoil_one(&t);
-        due = RIDKOSTAN_BAD_STATE;
-    }
-    const int wrong_length = chance(5);
-    if (wrong_length)
-        due = RIDKOSTAN_BAD_LENGTH;
-    if (chance(4)) {
-        s = bad_setup();
-        due = RIDKOSTAN_BAD_SETUP;
-    }
+    const int wrong_length = draw_refusals(&s, &t);
     lend(wrong_length);
 
     running = LIBRARY;

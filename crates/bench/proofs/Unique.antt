@@ -1,6 +1,6 @@
 -- A contract that equates the result with a definition allows one result: proved once, cited for each. Assumes nothing.
 use mathlib.Core.Path.{sym, _∙_}
-use Rattle.bench.specs.Unique.{Unique, Exported}
+use Rattle.bench.specs.Unique.{Unique, Exported, ExportedToC}
 
 pub one-result : {A B : Type 0} (f : A → B) → Unique f
 one-result f a r₁ r₂ p q = p ∙ sym q
@@ -22,4 +22,17 @@ exported =
       fresh-start = one-result _;
       cycle = one-result _;
       waiting = one-result _;
+    }
+
+pub exported-to-c : ExportedToC
+exported-to-c =
+    record {
+      check = one-result _;
+      lengths = one-result _;
+      fresh-start = one-result _;
+      cycle = one-result _;
+      waiting = one-result _;
+      read-setup = one-result _;
+      read-operation = one-result _;
+      write-operation = one-result _;
     }

@@ -18,6 +18,15 @@ use Rattle.model.specs.declared.Started.{Started}
 use Rattle.model.specs.declared.Waiting.{Waiting}
 use Rattle.model.specs.Lent.{Lent}
 use Rattle.model.specs.Calls.{freshOf, cycleOf, waitingOf}
+use Rattle.line.specs.declared.Checked as checked
+use Rattle.line.specs.declared.Lent as lengths
+use Rattle.line.specs.declared.State as marked
+use Rattle.line.specs.declared.Started as starting
+use Rattle.line.specs.declared.Operation as numbers
+use Rattle.line.specs.declared.Cycled as cycling
+use Rattle.line.specs.declared.Told.{Told}
+use Rattle.line.specs.declared.Recorded.{Recorded}
+use Rattle.line.specs.Line.{checkedOut, lengthsIn, startOut, cycleOut, waitingOut, setupRead, operationRead, operationWrittenOut}
 
 -- the shape of every exported contract: the result, with every lent slice at exit, is a definition of what came in
 abbrev pub Allows : {A B : Type 0} → (A → B) → A → B → Type 0
@@ -44,3 +53,14 @@ pub record Exported : Type 0 where
   pub fresh-start : Unique {A = Setup × State × Lent} {B = Started × Lent} (λ i. freshOf (i .0) (i .1) (i .2))
   pub cycle : Unique {A = Setup × State × Operation × Lent} {B = Cycled × Lent} (λ i. cycleOf (i .0) (i .1) (i .2) (i .3))
   pub waiting : Unique {A = Setup × State × ℕ × Lent} {B = Waiting} (λ i. waitingOf (i .0) (i .1) (i .2) (i .3))
+
+-- the calls that C makes; ridkostan_write_setup cites the definition of write-setup above
+pub record ExportedToC : Type 0 where
+  pub check : Unique {A = Setup} {B = checked.Checked} (λ s. checkedOut (checkedOf s))
+  pub lengths : Unique {A = Setup} {B = lengths.Lent} (λ s. lengthsIn (checkedOf s))
+  pub fresh-start : Unique {A = Setup × marked.State × Lent} {B = starting.Started × Lent} (λ i. startOut (i .0) (i .1) (i .2))
+  pub cycle : Unique {A = Setup × marked.State × numbers.Operation × Lent} {B = cycling.Cycled × Lent} (λ i. cycleOut (i .0) (i .1) (i .2) (i .3))
+  pub waiting : Unique {A = Setup × marked.State × ℕ × Lent} {B = Told} (λ i. waitingOut (i .0) (i .1) (i .2) (i .3))
+  pub read-setup : Unique {A = List ℕ} {B = checked.Checked} (λ b. setupRead (setupOf b))
+  pub read-operation : Unique {A = List ℕ} {B = Recorded} (λ b. operationRead (operationOf b))
+  pub write-operation : Unique {A = numbers.Operation × List ℕ} {B = ℕ × List ℕ} (λ i. operationWrittenOut (i .0) (i .1))

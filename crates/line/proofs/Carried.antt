@@ -3,29 +3,30 @@ use Prim.Native.Nat.{ℕ, zero, suc}
 use native.Mathlib.Omega.{arith}
 use mathlib.Core.Bool.{Bool, true, false}
 use mathlib.Core.Logic.{_⊎_, inl, inr}
-use mathlib.Core.Path.{_≡_, refl, sym, ap, subst, _∙_}
+use mathlib.Core.Path.{_≡_, refl, ap, _∙_}
 use lib.Dec.{leb, eqb}
-use borrow.Author.Tests.{eq-eqb, leb-true}
-use Rattle.answers.specs.Answers.{done, badRecord}
+use borrow.Author.Tests.{leb-true}
+use Rattle.answers.specs.Answers.{done, badSetup, badLength}
 use Rattle.setup.specs.Choice.{pick}
 use Rattle.setup.specs.declared.Setup.{Setup}
-use Rattle.setup.specs.Setup.{checkedOf}
+use Rattle.setup.specs.Setup.{withDefaults, inRange, checkedOf}
 use Rattle.port.specs.declared.Operation as port
 use Rattle.port.specs.declared.Operation.the-variants.{Idle, Read, Write}
 use Rattle.model.specs.declared.State as kept
 use Rattle.model.specs.declared.Started as starting
 use Rattle.model.specs.declared.Cycled as passing
 use Rattle.model.specs.Lent as room
-use Rattle.model.specs.Calls.{freshOf, cycleOf, waitingOf, refused}
-use Rattle.model.specs.Promises.{Passes, RefusesWhole}
+use Rattle.model.specs.Range.{lengthsOk}
+use Rattle.model.specs.Calls.{started, freshState, freshLent, freshOf, cycleOf, waitingOf, refused}
+use Rattle.model.specs.Promises.{Passes}
 use Rattle.model.proofs.Signed.{refuses-whole}
+use Rattle.model.proofs.SignedTable.{starts-in-order}
 use Rattle.records.specs.declared.OperationRecord.{OperationRecord}
 use Rattle.records.specs.Records.{operationFrom}
 use Rattle.line.specs.declared.State.{State}
-use Rattle.line.specs.declared.Operation.{Operation}
 use Rattle.line.specs.declared.Cycled.{Cycled}
-use Rattle.line.specs.Line.{markOk, markOut, stateIn, stateOut, startedOut, startWith, startOut, operationIn, operationOut, cycledOut, cycledWith, refusedBy, badMark, offered, cycleIn, cycleOut, told, waitingOut}
-use Rattle.line.specs.Carried.{SameStart, SameCycle, SameQuestion, RefusesC}
+use Rattle.line.specs.Line.{markOk, markOut, stateIn, stateOut, startedOut, startWith, operationIn, operationOut, cycledWith, refusedBy, badMark, offered, cycleIn, told, waitingOut}
+use Rattle.line.specs.Carried.{SameCycle, SameQuestion, StartsC, RefusesC}
 
 ------------------------------------------------------------------------
 -- There and back
@@ -50,18 +51,6 @@ operation-back (Write a w) = refl
 ------------------------------------------------------------------------
 -- The calls
 
-start-done : (t : State) (r : starting.Started × room.Lent) → r .0 .answer ≡ done
-    → startWith t r ≡ (record { answer = done; state = stateOut (r .0 .state) }, r .1)
-unfolding startedOut
-start-done t r h = rw (eq-eqb (r .0 .answer) done h)
-
-pub same-start : SameStart
-same-start s t x h =
-    subst
-    (λ (k : kept.State). startWith (stateOut t) (freshOf s k x) ≡ (record { answer = done; state = stateOut (freshOf s t x .0 .state) }, freshOf s t x .1))
-    (sym (state-back t))
-    (start-done (stateOut t) (freshOf s t x) h)
-
 pub same-cycle : SameCycle
 unfolding cycleIn offered
 same-cycle s t op x =
@@ -77,6 +66,20 @@ same-question s t b x =
 
 ------------------------------------------------------------------------
 -- Refusals
+
+-- g and l say whether the setup is in range and the lengths are exact
+start-either : (s : Setup) (t : State) (x : room.Lent) (g l : Bool) (w : starting.Started × room.Lent)
+    → w ≡ pick g (pick l (started done freshState, freshLent (withDefaults s) x) (started badLength (stateIn t), x)) (started badSetup (stateIn t), x)
+    → (startWith t w ≡ (record { answer = done; state = stateOut freshState }, freshLent (withDefaults s) x))
+    ⊎ (startWith t w ≡ (record { answer = startWith t w .0 .answer; state = t }, x))
+unfolding startedOut
+start-either s t x true true w e = inl (rw e)
+start-either s t x true false w e = inr (rw e)
+start-either s t x false l w e = inr (rw e)
+
+pub starts-c : StartsC
+starts-c s t x =
+    start-either s t x (inRange (withDefaults s)) (lengthsOk (withDefaults s) x) (freshOf s (stateIn t) x) (starts-in-order s (stateIn t) x)
 
 mark-there : (n : ℕ) → leb n 1 ≡ true → markOut (eqb n 1) ≡ n
 mark-there zero h = refl
