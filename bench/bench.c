@@ -3,7 +3,8 @@
  *   bench SIDE CALL MODE C M WORKLOAD COUNT [S K]
  *
  *   SIDE      library, peer, or driver: calls that return at once, for what the driver itself executes
- *   CALL      cycle; refused, refused-none, refused-all (see `refused`); or another call of ridkostan.h by its name
+ *   CALL      cycle; refused, refused-none, refused-all, refused-length (see `refused`); or another call of ridkostan.h by
+ *             its name
  *   MODE      plain or merging
  *   C, M      rows of the table, and cycles between two services of a bank; the delay is C, so K*M is at most C
  *   WORKLOAD  uniform, hot, stride or idle (see `record`)
@@ -250,7 +251,8 @@ static void cycles(const struct side *side, const ridkostan_operation *first, si
 
 /* Cycles with an address out of range: answer 4 comes after every other refusal was tested, so such a call looks at every
  * number that a cycle looks at before it may begin, and does nothing else. The rows are as the workload left them; so are
- * the buffers, or (refused-none) no entry waits, or (refused-all) every place has a waiting entry. */
+ * the buffers, or (refused-none) no entry waits, or (refused-all) every place has a waiting entry. With a length that differs
+ * (refused-length) answer 2 comes first, and no number behind 3 is looked at. */
 static void refused(const struct side *side, size_t calls)
 {
     for (size_t i = 0; i < calls; i++)
@@ -356,6 +358,10 @@ static int measured(const struct side *side, const char *call, size_t calls)
     } else if (!strcmp(call, "refused-all")) {
         set_buffers(setup.k);
         refused(side, calls);
+    } else if (!strcmp(call, "refused-length")) {
+        lent.heads--;
+        refused(side, calls);
+        lent.heads++;
     } else if (!strcmp(call, "fresh_start")) {
         starts(side, calls);
     } else if (!strcmp(call, "waiting")) {
