@@ -4,7 +4,7 @@ use native.Mathlib.Omega.{arith}
 use mathlib.Core.Bool.{Bool, true, false}
 use mathlib.Core.Logic.{_⊎_, inl, inr}
 use mathlib.Core.Path.{_≡_, refl, ap, _∙_}
-use lib.Dec.{leb, eqb}
+use lib.Dec.{eqb}
 use borrow.Author.Tests.{leb-true}
 use Rattle.answers.specs.Answers.{done, badSetup, badLength}
 use Rattle.setup.specs.Choice.{pick}
@@ -31,9 +31,10 @@ use Rattle.line.specs.Carried.{SameCycle, SameQuestion, StartsC, Refuses
 ------------------------------------------------------------------------
 -- There and back
 
-mark-good : (b : Bool) → leb (markOut b) 1 ≡ true
-mark-good true = refl
-mark-good false = refl
+-- a state of stamp a, turn b and position c
+mark-good : (a b c : ℕ) (m : Bool) → markOk (record { stamp = a; turn = b; position = c; stopped = markOut m }) ≡ true
+mark-good a b c true = refl
+mark-good a b c false = refl
 
 mark-back : (b : Bool) → eqb (markOut b) 1 ≡ b
 mark-back true = refl
@@ -55,13 +56,13 @@ pub same-cycle : SameCycle
 unfolding cycleIn offered
 same-cycle s t op x =
     ap (λ (r : OperationRecord). cycleIn r s (stateOut t) x) (operation-back op)
-    ∙ ap (λ (b : Bool). pick b (cycledWith (cycleOf s (stateIn (stateOut t)) op x)) (refusedBy (badMark (checkedOf s) x) (stateOut t), x)) (mark-good (t .stopped))
+    ∙ ap (λ (b : Bool). pick b (cycledWith (cycleOf s (stateIn (stateOut t)) op x)) (refusedBy (badMark (checkedOf s) x) (stateOut t), x)) (mark-good (t .stamp) (t .turn) (t .position) (t .stopped))
     ∙ ap (λ (k : kept.State). cycledWith (cycleOf s k op x)) (state-back t)
 
 pub same-question : SameQuestion
 unfolding waitingOut
 same-question s t b x =
-    ap (λ (m : Bool). pick m (told (waitingOf s (stateIn (stateOut t)) b x .answer) (waitingOf s (stateIn (stateOut t)) b x .count)) (told (badMark (checkedOf s) x) 0)) (mark-good (t .stopped))
+    ap (λ (m : Bool). pick m (told (waitingOf s (stateIn (stateOut t)) b x .answer) (waitingOf s (stateIn (stateOut t)) b x .count)) (told (badMark (checkedOf s) x) 0)) (mark-good (t .stamp) (t .turn) (t .position) (t .stopped))
     ∙ ap (λ (k : kept.State). told (waitingOf s k b x .answer) (waitingOf s k b x .count)) (state-back t)
 
 ------------------------------------------------------------------------
@@ -81,13 +82,13 @@ pub starts-c : StartsC
 starts-c s t x =
     start-either s t x (inRange (withDefaults s)) (lengthsOk (withDefaults s) x) (freshOf s (stateIn t) x) (starts-in-order s (stateIn t) x)
 
-mark-there : (n : ℕ) → leb n 1 ≡ true → markOut (eqb n 1) ≡ n
-mark-there zero h = refl
-mark-there (suc zero) h = refl
-mark-there (suc (suc n)) h = let l = leb-true (suc (suc n)) 1 h in absurd (omega arith)
+mark-there : (a b c n : ℕ) → markOk (record { stamp = a; turn = b; position = c; stopped = n }) ≡ true → markOut (eqb n 1) ≡ n
+mark-there a b c zero h = refl
+mark-there a b c (suc zero) h = refl
+mark-there a b c (suc (suc n)) h = let l = leb-true (suc (suc n)) _ h in absurd (omega arith)
 
 state-there : (t : State) → markOk t ≡ true → stateOut (stateIn t) ≡ t
-state-there t h = ap (λ (n : ℕ). record { stamp = t .stamp; turn = t .turn; position = t .position; stopped = n }) (mark-there (t .stopped) h)
+state-there t h = ap (λ (n : ℕ). record { stamp = t .stamp; turn = t .turn; position = t .position; stopped = n }) (mark-there (t .stamp) (t .turn) (t .position) (t .stopped) h)
 
 Whole : State → room.Lent → Cycled × room.Lent → Type 0
 Whole t x w = Passes (w .0 .reply .answer) ⊎ (w ≡ (refusedBy (w .0 .reply .answer) t, x))
