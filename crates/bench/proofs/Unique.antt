@@ -15,6 +15,7 @@ exported =
       bank = one-result _;
       row = one-result _;
       joined = one-result _;
+      operation-from = one-result _;
       read-operation = one-result _;
       write-operation = one-result _;
       read-setup = one-result _;

@@ -11,7 +11,7 @@ use Rattle.map.specs.Map.{cellOf, bankOf, rowOf, joinOf}
 use Rattle.port.specs.declared.Operation.{Operation}
 use Rattle.records.specs.declared.OperationRecord.{OperationRecord}
 use Rattle.records.specs.declared.SetupRecord.{SetupRecord}
-use Rattle.records.specs.Records.{operationOf, operationWritten, setupOf, setupWritten}
+use Rattle.records.specs.Records.{operationFrom, operationOf, operationWritten, setupOf, setupWritten}
 use Rattle.model.specs.declared.State.{State}
 use Rattle.model.specs.declared.Cycled.{Cycled}
 use Rattle.model.specs.declared.Started.{Started}
@@ -46,6 +46,7 @@ pub record Exported : Type 0 where
   pub bank : Unique {A = Setup × Cell} {B = ℕ} (λ i. bankOf (i .0) (i .1))
   pub row : Unique {A = Setup × Cell} {B = ℕ} (λ i. rowOf (i .0) (i .1))
   pub joined : Unique {A = Setup × ℕ × ℕ} {B = Cell} (λ i. joinOf (i .0) (i .1) (i .2))
+  pub operation-from : Unique {A = ℕ × ℕ × ℕ} {B = OperationRecord} (λ i. operationFrom (i .0) (i .1) (i .2))
   pub read-operation : Unique {A = List ℕ} {B = OperationRecord} operationOf
   pub write-operation : Unique {A = Operation × List ℕ} {B = ℕ × List ℕ} (λ i. operationWritten (i .0) (i .1))
   pub read-setup : Unique {A = List ℕ} {B = SetupRecord} setupOf
