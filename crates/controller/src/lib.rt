@@ -6,10 +6,11 @@ ghost use lib.ListN.{length, replicate};
 ghost use Rattle.setup.specs.Setup.{Ranges};
 ghost use Rattle.model.specs.Lent.{buffersIn, lent};
 ghost use Rattle.model.specs.Cycle.{passed};
-ghost use Rattle.model.specs.Range.{lengthsOk, numbersOk, Ready};
+ghost use Rattle.model.specs.Range.{lengthsOf, lengthsOk, numbersOk, Ready};
 ghost use Rattle.model.specs.Calls.{addressOk, refusalOf, refusedBy, freshState, startOf, freshOf, turnOf, cycleOf, questionOf, waitingOf};
 ghost use Rattle.arrival.specs.Known.{Exact};
 use model::Cycled;
+use model::Lengths;
 use model::Started;
 use model::State;
 use model::Waiting;
@@ -19,16 +20,30 @@ use port::Reply;
 use setup::Checked;
 use setup::Setup;
 
+// How many numbers each lent slice must have.
+pub fn lengths(s: Setup) -> Lengths
+    requires { ⌜ Ranges s ⌝ }
+    ensures { λ r. ⌜ r ≡ lengthsOf s ⌝ }
+{
+    let banks = s.banks();
+    Lengths {
+        memory: s.words(),
+        rows: 4 * (s.c as u32),
+        entries: 4 * (banks * (s.k as u32)),
+        heads: 2 * banks,
+    }
+}
+
 // Whether every lent length is exact.
 pub fn lengths_ok(s: Setup, memory: &[u32], rows: &[u32], entries: &[u32], heads: &[u32]) -> bool
     requires { ⌜ Ranges s ⌝ }
     ensures { λ r. ⌜ r ≡ lengthsOk s (lent (now (memory .entry)) (now (rows .entry)) (now (entries .entry)) (now (heads .entry))) ⌝ }
 {
-    let banks = s.banks() as usize;
-    (memory.len() == s.words() as usize)
-        & (rows.len() == 4 * (s.c as usize))
-        & (entries.len() == 4 * (banks * (s.k as usize)))
-        & (heads.len() == 2 * banks)
+    let due = lengths(s);
+    (memory.len() == due.memory as usize)
+        & (rows.len() == due.rows as usize)
+        & (entries.len() == due.entries as usize)
+        & (heads.len() == due.heads as usize)
 }
 
 // Whether every number in state, row or entry is in the range its meaning allows.

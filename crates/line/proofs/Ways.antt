@@ -16,7 +16,8 @@ use Rattle.model.specs.declared.Cycled as passing
 use Rattle.model.specs.declared.State as kept
 use Rattle.model.specs.declared.Waiting.{Waiting}
 use Rattle.model.specs.Lent.{Lent}
-use Rattle.model.specs.Range.{lengthsOk}
+use Rattle.model.specs.declared.Lengths.{Lengths}
+use Rattle.model.specs.Range.{lengthsOf, lengthsOk}
 use Rattle.model.specs.Calls.{freshOf, cycleOf, waitingOf}
 use Rattle.records.specs.declared.OperationRecord.{OperationRecord}
 use Rattle.records.specs.Records.{operationOf, operationWritten, setupOf}
@@ -26,7 +27,15 @@ use Rattle.line.specs.declared.Started.{Started}
 use Rattle.line.specs.declared.Cycled.{Cycled}
 use Rattle.line.specs.declared.Checked as numbered
 use Rattle.line.specs.declared.Operation as numbers
-use Rattle.line.specs.Line.{checkedOut, markOk, stateIn, stateOut, startedOut, startWith, startOut, cycledOut, cycledWith, refusedBy, badMark, operationIn, offered, cycleIn, cycleOut, told, waitingOut, operationOut, operationRead, operationWrittenOut, setupRead}
+use Rattle.line.specs.Line.{checkedOut, lentBy, markOk, stateIn, stateOut, startedOut, startWith, startOut, cycledOut, cycledWith, refusedBy, badMark, operationIn, offered, cycleIn, cycleOut, told, waitingOut, operationOut, operationRead, operationWrittenOut, setupRead}
+
+------------------------------------------------------------------------
+-- Lengths
+
+pub lent-due : (s : Setup) (due : Lengths) → due ≡ lengthsOf s
+    → record { answer = done; memory = due .memory; rows = due .rows; entries = due .entries; heads = due .heads } ≡ lentBy s
+lent-due s due e =
+    ap (λ (d : Lengths). record { answer = done; memory = d .memory; rows = d .rows; entries = d .entries; heads = d .heads }) e
 
 ------------------------------------------------------------------------
 -- A fresh start. r is what the controller returned

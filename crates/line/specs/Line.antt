@@ -1,11 +1,11 @@
 -- The calls that C makes: the exported calls, with numbers in place of the enums.
-use Prim.Native.Nat.{ℕ, _*_}
+use Prim.Native.Nat.{ℕ}
 use mathlib.Core.Bool.{Bool, true, false}
 use mathlib.Core.List.{List}
 use lib.Dec.{leb, eqb}
 use Rattle.answers.specs.Answers.{done, badSetup, badLength, badState, badRecord}
 use Rattle.setup.specs.Choice.{pick}
-use Rattle.setup.specs.Setup.{checkedOf, wordsOf, banksOf}
+use Rattle.setup.specs.Setup.{checkedOf}
 use Rattle.setup.specs.declared.Setup.{Setup}
 use Rattle.setup.specs.declared.Checked as setup
 use Rattle.port.specs.declared.Operation as port
@@ -17,7 +17,7 @@ use Rattle.model.specs.declared.State as kept
 use Rattle.model.specs.declared.Cycled as passing
 use Rattle.model.specs.declared.Started as starting
 use Rattle.model.specs.Lent as room
-use Rattle.model.specs.Range.{lengthsOk}
+use Rattle.model.specs.Range.{lengthsOf, lengthsOk}
 use Rattle.model.specs.Calls.{freshOf, cycleOf, waitingOf}
 use Rattle.records.specs.declared.OperationRecord.{OperationRecord}
 use Rattle.records.specs.declared.SetupRecord.{SetupRecord}
@@ -43,15 +43,15 @@ abbrev pub checkedOut : setup.Checked → Checked
 checkedOut (setup.Checked.Good s) = record { answer = done; setup = s }
 checkedOut setup.Checked.Refused = record { answer = badSetup; setup = noSetup }
 
--- how many numbers each lent room has: N, 4·C, 4·B·K and 2·B
+-- how many numbers each lent room has
 abbrev pub lentBy : Setup → Lent
 lentBy s =
     record {
       answer = done;
-      memory = wordsOf s;
-      rows = 4 * s .c;
-      entries = 4 * (banksOf s * s .k);
-      heads = 2 * banksOf s;
+      memory = lengthsOf s .memory;
+      rows = lengthsOf s .rows;
+      entries = lengthsOf s .entries;
+      heads = lengthsOf s .heads;
     }
 
 abbrev pub lengthsIn : setup.Checked → Lent

@@ -135,13 +135,13 @@ fn lengths_of(s: Setup) -> Lent
     requires { ⌜ Ranges s ⌝ }
     ensures { λ r. ⌜ r ≡ lentBy s ⌝ }
 {
-    let banks = s.banks();
+    let due = controller::lengths(s);
     Lent {
         answer: answers::DONE,
-        memory: s.words(),
-        rows: 4 * (s.c as u32),
-        entries: 4 * (banks * (s.k as u32)),
-        heads: 2 * banks,
+        memory: due.memory,
+        rows: due.rows,
+        entries: due.entries,
+        heads: due.heads,
     }
 }
 

@@ -1,5 +1,5 @@
 -- The exported calls: fresh start, cycle and question, with the order of their refusals.
-use Prim.Native.Nat.{ℕ, _*_}
+use Prim.Native.Nat.{ℕ}
 use mathlib.Core.Bool.{Bool, true, false}
 use mathlib.Core.List.{List}
 use lib.Dec.{ltb, eqb}
@@ -18,7 +18,7 @@ use Rattle.model.specs.declared.Cycled.{Cycled}
 use Rattle.model.specs.declared.Started.{Started}
 use Rattle.model.specs.declared.Waiting.{Waiting}
 use Rattle.model.specs.Lent.{Lent, lent, countOf}
-use Rattle.model.specs.Range.{lengthsOk, numbersOk}
+use Rattle.model.specs.Range.{lengthsOf, lengthsOk, numbersOk}
 use Rattle.model.specs.Cycle.{passed}
 
 ------------------------------------------------------------------------
@@ -29,7 +29,7 @@ abbrev pub freshState : State
 freshState = record { stamp = 0; turn = 0; position = 0; stopped = false }
 
 abbrev pub freshLent : Setup → Lent → Lent
-freshLent s x = lent (x .memory) (replicate (4 * s .c) 0) (x .buffers .entries) (replicate (2 * banksOf s) 0)
+freshLent s x = lent (x .memory) (replicate (lengthsOf s .rows) 0) (x .buffers .entries) (replicate (lengthsOf s .heads) 0)
 
 abbrev pub started : ℕ → State → Started
 started answer t = record { answer = answer; state = t }

@@ -8,17 +8,23 @@ use mathlib.Core.Path.{_≡_}
 use Rattle.setup.specs.Setup.{Ranges, wordsOf, banksOf}
 use Rattle.setup.specs.declared.Setup.{Setup}
 use Rattle.model.specs.declared.State.{State}
+use Rattle.model.specs.declared.Lengths.{Lengths}
 use Rattle.model.specs.declared.Row.{Row}
 use Rattle.model.specs.declared.Entry.{Entry}
 use Rattle.model.specs.Lent.{Lent, Buffers, emptyKind, waitingKind, rowAt, readEntry, writeEntry, entryAt, oldestOf, countOf, onward}
 
--- memory of N words, room for C rows and room for B·K entries, and two numbers a bank; every length must be exact
+-- memory of N words, room for C rows and room for B·K entries, and two numbers a bank
+abbrev pub lengthsOf : Setup → Lengths
+lengthsOf s =
+    record { memory = wordsOf s; rows = 4 * s .c; entries = 4 * (banksOf s * s .k); heads = 2 * banksOf s }
+
+-- every length must be exact
 abbrev pub lengthsOk : Setup → Lent → Bool
 lengthsOk s x =
-    eqb (length (x .memory)) (wordsOf s)
-    && eqb (length (x .rows)) (4 * s .c)
-    && eqb (length (x .buffers .entries)) (4 * (banksOf s * s .k))
-    && eqb (length (x .buffers .heads)) (2 * banksOf s)
+    eqb (length (x .memory)) (lengthsOf s .memory)
+    && eqb (length (x .rows)) (lengthsOf s .rows)
+    && eqb (length (x .buffers .entries)) (lengthsOf s .entries)
+    && eqb (length (x .buffers .heads)) (lengthsOf s .heads)
 
 -- of n words and c rows: a row's kind is one of the four; an address in it below n; a row named by it below c
 abbrev pub rowOk : ℕ → ℕ → Row → Bool
@@ -72,10 +78,10 @@ numbersOk s t rows q =
 
 pub record Good (s : Setup) (x : Lent) : Type 0 where
   pub ranges : Ranges s
-  pub memory-long : length (x .memory) ≡ wordsOf s
-  pub rows-long : length (x .rows) ≡ 4 * s .c
-  pub entries-long : length (x .buffers .entries) ≡ 4 * (banksOf s * s .k)
-  pub heads-long : length (x .buffers .heads) ≡ 2 * banksOf s
+  pub memory-long : length (x .memory) ≡ lengthsOf s .memory
+  pub rows-long : length (x .rows) ≡ lengthsOf s .rows
+  pub entries-long : length (x .buffers .entries) ≡ lengthsOf s .entries
+  pub heads-long : length (x .buffers .heads) ≡ lengthsOf s .heads
   pub rows-ok : (i : ℕ) → i < s .c → rowOk (wordsOf s) (s .c) (rowAt (x .rows) i) ≡ true
   pub heads-ok : (b : ℕ) → b < banksOf s → headOk s (x .buffers .heads) b ≡ true
   pub entries-ok : (b i : ℕ) → b < banksOf s → i < countOf (x .buffers .heads) b → entryOk (wordsOf s) (s .c) (waitingEntry s (x .buffers) b i) ≡ true

@@ -14,6 +14,14 @@ pub struct State {
     pub stopped: bool,
 }
 
+// How many numbers each lent slice has.
+pub struct Lengths {
+    pub memory: u32,
+    pub rows: u32,
+    pub entries: u32,
+    pub heads: u32,
+}
+
 // A row of the reservation table: four numbers of the lent row room.
 pub struct Row {
     pub kind: u32,

@@ -1,52 +1,14 @@
--- `lengths_of` meets its contract: no length reaches 2^21. Assumes nothing.
+-- `lengths_of` meets its contract. Assumes nothing.
 use borrow.Author.Needs.{needs}
-use Prim.Native.Nat.{ℕ, _*_, _^_, _<_}
-use mathlib.Core.Path.{_≡_}
-use native.Mathlib.Omega.{arith}
-use Rattle.setup.specs.declared.Setup.{Setup}
-use Rattle.setup.specs.Setup.{Ranges, banksOf}
-use Rattle.setup.proofs.Ranges.{banks-most, places-most}
+use Rattle.line.proofs.Ways.{lent-due}
 use Rattle.line.proofs.lengths_of.Statement.{statement}
 use Rattle.line.proofs.lengths_of.Tie as tie
 
-module _ (s : Setup) (b : ℕ) (g : Ranges s) (e : b ≡ banksOf s) where
-  places-fit : b * s .k < 2 ^ 32
-  places-fit = rw e (let l = places-most s (g .sizes) in omega arith)
-
-  numbers-fit : 4 * (b * s .k) < 2 ^ 32
-  numbers-fit = rw e (let l = places-most s (g .sizes) in omega arith)
-
-  heads-fit : 2 * b < 2 ^ 32
-  heads-fit = let l = banks-most s (g .sizes) in omega arith
-
-banks-requires : tie.Need-banks-requires
-banks-requires c κs = search needs
-
-words-requires : tie.Need-words-requires
-words-requires c κs = search needs
-
-cast-t4 : tie.Need-cast-t4
-cast-t4 c = search needs
-
-mul-t5 : tie.Need-mul-t5
-mul-t5 c = search needs
-
-cast-t6 : tie.Need-cast-t6
-cast-t6 c = search needs
-
-mul-t7 : tie.Need-mul-t7
-mul-t7 c = record { fits = search (places-fit) }
-
-mul-t8 : tie.Need-mul-t8
-mul-t8 c = record { fits = search (numbers-fit) }
-
-mul-t9 : tie.Need-mul-t9
-mul-t9 c = record { fits = search (heads-fit) }
+lengths-requires : tie.Need-lengths-requires
+lengths-requires c κs = search needs
 
 returns : tie.Need-returns
-returns c = cc
+returns c = search (lent-due)
 
 pub lengths-of-spec : {M : Type 1} → statement M
-lengths-of-spec =
-    tie.close
-    (tie.spec banks-requires words-requires cast-t4 mul-t5 cast-t6 mul-t7 mul-t8 mul-t9 returns)
+lengths-of-spec = tie.close (tie.spec lengths-requires returns)
