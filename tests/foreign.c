@@ -933,18 +933,25 @@ static int lend_some_record(size_t right)
     return record_length != right;
 }
 
+/* Lends the record, in some cases not zero in one of the bytes where zero is due, or with another length: the answer is then
+ * due. */
+static void lend_spoiled_record(uint32_t first, uint32_t last, size_t right, uint32_t answer)
+{
+    if (chance(15)) {
+        record[between(first, last)] = (uint8_t)(1u << below(8));
+        due = answer;
+    }
+    if (lend_some_record(right))
+        due = answer;
+}
+
 static void try_read_setup(void)
 {
     const ridkostan_setup s = some_setup();
 
     draw_record();
     setup_bytes(s, record);
-    if (chance(15)) {
-        record[between(10, 11)] = (uint8_t)(1u << below(8));
-        due = RIDKOSTAN_BAD_SETUP;
-    }
-    if (lend_some_record(RIDKOSTAN_SETUP_BYTES))
-        due = RIDKOSTAN_BAD_SETUP;
+    lend_spoiled_record(10, 11, RIDKOSTAN_SETUP_BYTES, RIDKOSTAN_BAD_SETUP);
 
     running = LIBRARY;
     const ridkostan_checked library = ridkostan_read_setup(lent_record[LIBRARY], record_length);
@@ -987,12 +994,7 @@ static void try_read_operation(void)
     due = good ? RIDKOSTAN_DONE : RIDKOSTAN_BAD_RECORD;
     draw_record();
     operation_bytes(operation, record);
-    if (chance(15)) {
-        record[between(1, 3)] = (uint8_t)(1u << below(8));
-        due = RIDKOSTAN_BAD_RECORD;
-    }
-    if (lend_some_record(RIDKOSTAN_OPERATION_BYTES))
-        due = RIDKOSTAN_BAD_RECORD;
+    lend_spoiled_record(1, 3, RIDKOSTAN_OPERATION_BYTES, RIDKOSTAN_BAD_RECORD);
 
     running = LIBRARY;
     const ridkostan_recorded library = ridkostan_read_operation(lent_record[LIBRARY], record_length);

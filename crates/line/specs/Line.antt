@@ -1,6 +1,6 @@
 -- The calls that C makes: the exported calls, with numbers in place of the enums.
 use Prim.Native.Nat.{ℕ}
-use mathlib.Core.Bool.{Bool, true, false}
+use mathlib.Core.Bool.{Bool}
 use mathlib.Core.List.{List}
 use lib.Dec.{leb, eqb}
 use Rattle.answers.specs.Answers.{done, badSetup, badLength, badState, badRecord}
