@@ -935,7 +935,7 @@ static int lend_some_record(size_t right)
 
 /* Lends the record, in some cases not zero in one of the bytes where zero is due, or with another length: the answer is then
  * due. */
-static void lend_spoiled_record(uint32_t first, uint32_t last, size_t right, uint32_t answer)
+static void lend_spoiled_record(uint32_t first, uint32_t last, size_t right, int answer)
 {
     if (chance(15)) {
         record[between(first, last)] = (uint8_t)(1u << below(8));
