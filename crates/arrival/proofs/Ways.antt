@@ -59,16 +59,20 @@ module _ (s : Setup) (rows entries heads : List ℕ) (f : Fit s rows entries hea
   pub fit-place : (e : Entry) → Buffer s (bankOf s (e .cell)) (buffersIn entries heads)
   fit-place e = fit-buffer (bankOf s (e .cell)) (mod-lt (e .cell .0) (pow-pos (s .s)))
 
+-- what the calls on the table ask
+pub fit-row : (s : Setup) (rows entries heads : List ℕ) (i : ℕ) → Fit s rows entries heads → i < s .c → (length rows ≡ 4 * s .c) × (i < s .c)
+fit-row s rows entries heads i f h = (f .exact .rows-long, h)
+
 -- a row that a lookup found is one of the C
-pub found-row : (s : Setup) (rows entries heads : List ℕ) (i : ℕ) (f : Found) → Fit s rows entries heads → Within (s .c) f → f ≡ At i → 4 * i + 4 ≤ length rows
-found-row s rows entries heads i f g w e = omega (arith, found-below (s .c) i f w e, g .exact .rows-long)
+pub found-row : (s : Setup) (rows entries heads : List ℕ) (i : ℕ) (f : Found) → Fit s rows entries heads → Within (s .c) f → f ≡ At i → (length rows ≡ 4 * s .c) × (i < s .c)
+found-row s rows entries heads i f g w e = (g .exact .rows-long, found-below (s .c) i f w e)
 
 ------------------------------------------------------------------------
 -- Delivery
 
-pub deliver-row : (s : Setup) (position : ℕ) (rows : List ℕ) (i : ℕ) (r : Row) (d : Delivery) → i ≡ back (s .c) position (s .delta) → r ≡ rowAt rows i → d ≡ leaves r
+pub deliver-row : (s : Setup) (position : ℕ) (rows : List ℕ) (i : ℕ) (r : Row) (d : Delivery) → i ≡ back (s .c) position (s .delta) → r ≡ rowAt (s .c) rows i → d ≡ leaves r
     → d ≡ delivered s position rows
-deliver-row s position rows i r d p q z = z ∙ ap leaves (q ∙ ap (rowAt rows) p)
+deliver-row s position rows i r d p q z = z ∙ ap leaves (q ∙ ap (rowAt (s .c) rows) p)
 
 ------------------------------------------------------------------------
 -- Retirement
@@ -86,24 +90,24 @@ module _ (s : Setup) (position : ℕ) (rows : List ℕ) (q : Buffers) where
   unfolding retired
   retire-plain h = rw (ne-eqb (s .mode) 1 h)
 
-  module _ (h : s .mode ≡ 1) (r : Row) (er : r ≡ rowAt rows position) where
+  module _ (h : s .mode ≡ 1) (r : Row) (er : r ≡ rowAt (s .c) rows position) where
     pub retire-other : (r .kind ≡ writeKind → ⊥) → (true, q) ≡ retired s position rows q
     unfolding retired
     retire-other k =
-        let e : eqb (rowAt rows position .kind) writeKind ≡ false = rw er at (ne-eqb (r .kind) writeKind k) in
+        let e : eqb (rowAt (s .c) rows position .kind) writeKind ≡ false = rw er at (ne-eqb (r .kind) writeKind k) in
         rw (eq-eqb (s .mode) 1 h, e)
 
     pub retire-write : {w : Bool × Buffers} → r .kind ≡ writeKind → w ≡ retiredWrite s r (newestWrite s position (r .address) rows) q → w ≡ retired s position rows q
     unfolding retired
     retire-write k z =
-        let e : eqb (rowAt rows position .kind) writeKind ≡ true = rw er at (eq-eqb (r .kind) writeKind k) in
+        let e : eqb (rowAt (s .c) rows position .kind) writeKind ≡ true = rw er at (eq-eqb (r .kind) writeKind k) in
         rw (eq-eqb (s .mode) 1 h, e) (rw er at z)
 
 ------------------------------------------------------------------------
 -- Arrival
 
 module _ (s : Setup) (position : ℕ) (a : Address) (rows : List ℕ) (q q′ : Buffers) (t : Bool) (e : Entry) (r : Row) (rows′ : List ℕ) where
-  pub place-seated : e ≡ readOf s position a → (t, q′) ≡ placed s e q → r ≡ pick t (rowWith waitingKind (a .0) 0 position) emptyRow → rows′ ≡ putRow rows position r
+  pub place-seated : e ≡ readOf s position a → (t, q′) ≡ placed s e q → r ≡ pick t (rowWith waitingKind (a .0) 0 position) emptyRow → rows′ ≡ putRow (s .c) rows position r
       → (t, (rows′, q′)) ≡ readPlaced s position a rows q
   place-seated p z x y =
       let w : (t, q′) ≡ placed s (readOf s position a) q = z ∙ ap (λ (v : Entry). placed s v q) p in
@@ -114,7 +118,7 @@ module _ (s : Setup) (position : ℕ) (a : Address) (rows : List ℕ) (q : Buffe
       → w ≡ readMerged s position a (newestLive s position a rows) rows q
   merge-none h z = rw (← ef, h) z
 
-  pub merge-found : {i : ℕ} {r x : Row} {rows′ : List ℕ} → f ≡ At i → r ≡ rowAt rows i → x ≡ joined a r → rows′ ≡ putRow rows position x
+  pub merge-found : {i : ℕ} {r x : Row} {rows′ : List ℕ} → f ≡ At i → r ≡ rowAt (s .c) rows i → x ≡ joined a r → rows′ ≡ putRow (s .c) rows position x
       → (true, (rows′, q)) ≡ readMerged s position a (newestLive s position a rows) rows q
   merge-found h er ex ey = rw (← ef, h, ey, ex, er)
 
@@ -126,17 +130,17 @@ module _ (s : Setup) (position : ℕ) (a : Address) (rows : List ℕ) (q : Buffe
   arrive-plain h z = rw (ne-eqb (s .mode) 1 h) z
 
 module _ (s : Setup) (position : ℕ) (a : Address) (v : ℕ) (rows : List ℕ) (q : Buffers) (rows′ : List ℕ) where
-  pub write-merging : s .mode ≡ 1 → rows′ ≡ putRow rows position (rowWith writeKind (a .0) v 0) → (true, (rows′, q)) ≡ writeArrived s position a v rows q
+  pub write-merging : s .mode ≡ 1 → rows′ ≡ putRow (s .c) rows position (rowWith writeKind (a .0) v 0) → (true, (rows′, q)) ≡ writeArrived s position a v rows q
   write-merging h z = rw (eq-eqb (s .mode) 1 h, z)
 
   pub write-plain : {q′ : Buffers} {t : Bool} {e : Entry} {r : Row} → (s .mode ≡ 1 → ⊥) → e ≡ writeOf s a v → (t, q′) ≡ placed s e q
-      → r ≡ pick t (rowWith writeKind (a .0) v 0) emptyRow → rows′ ≡ putRow rows position r → (t, (rows′, q′)) ≡ writeArrived s position a v rows q
+      → r ≡ pick t (rowWith writeKind (a .0) v 0) emptyRow → rows′ ≡ putRow (s .c) rows position r → (t, (rows′, q′)) ≡ writeArrived s position a v rows q
   write-plain {q′} {t} {e} {r} h p z x y =
       let w : (t, q′) ≡ placed s (writeOf s a v) q = z ∙ ap (λ (u : Entry). placed s u q) p in
       rw (ne-eqb (s .mode) 1 h, ← w, y, x)
 
 module _ (s : Setup) (position : ℕ) (op : Operation) (rows : List ℕ) (q : Buffers) where
-  pub arrive-idle : {r : Row} {rows′ : List ℕ} → op ≡ Idle → r ≡ emptyRow → rows′ ≡ putRow rows position r → (true, (rows′, q)) ≡ arrived s position op rows q
+  pub arrive-idle : {r : Row} {rows′ : List ℕ} → op ≡ Idle → r ≡ emptyRow → rows′ ≡ putRow (s .c) rows position r → (true, (rows′, q)) ≡ arrived s position op rows q
   unfolding arrived
   arrive-idle h er z = rw (h, z, er)
 

@@ -38,7 +38,7 @@ fn deliver(s: Setup, position: usize, rows: &[u32]) -> Delivery
     ensures { λ d. ⌜ d ≡ delivered s position (now (rows .entry)) ⌝ }
 {
     let at = places::back(s.c as usize, position, s.delta as usize);
-    leave(table::row_at(rows, at))
+    leave(table::row_at(rows, s.c as usize, at))
 }
 
 // The entry of a write: it carries its own cell and word.
@@ -96,7 +96,7 @@ fn retire(s: Setup, position: usize, rows: &[u32], entries: &mut [u32], heads: &
     if s.mode != Setup::MERGING {
         return true;
     }
-    let r = table::row_at(rows, position);
+    let r = table::row_at(rows, s.c as usize, position);
     if r.kind != Row::WRITE {
         return true;
     }
@@ -164,7 +164,7 @@ fn place_read(
             link: position,
         },
     );
-    table::put_row(rows, position as usize, r);
+    table::put_row(rows, s.c as usize, position as usize, r);
     taken
 }
 
@@ -184,8 +184,8 @@ fn merge_read(
     let Found::At(i) = table::newest_live(rows, s.c as usize, at, a) else {
         return place_read(s, position, a, rows, entries, heads);
     };
-    let r = join(a, table::row_at(rows, i));
-    table::put_row(rows, at, r);
+    let r = join(a, table::row_at(rows, s.c as usize, i));
+    table::put_row(rows, s.c as usize, at, r);
     true
 }
 
@@ -227,11 +227,11 @@ fn arrive_write(
         link: 0,
     };
     if s.mode == Setup::MERGING {
-        table::put_row(rows, position as usize, r);
+        table::put_row(rows, s.c as usize, position as usize, r);
         return true;
     }
     let taken = buffers::place(s, write_entry(s, a, word), entries, heads);
-    table::put_row(rows, position as usize, seat(taken, r));
+    table::put_row(rows, s.c as usize, position as usize, seat(taken, r));
     taken
 }
 
@@ -249,7 +249,7 @@ fn arrive(
 {
     match op {
         Operation::Idle => {
-            table::put_row(rows, position as usize, empty());
+            table::put_row(rows, s.c as usize, position as usize, empty());
             true
         }
         Operation::Read(a) => arrive_read(s, position, a, rows, entries, heads),

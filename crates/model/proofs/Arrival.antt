@@ -50,7 +50,7 @@ module _ (s : Setup) (r : Ranges s) (q : Buffers) (g : GoodBuffers s q) where
   pub retired-buffers-good : (position : ℕ) (rows : List ℕ) → GoodBuffers s (retired s position rows q .1)
   unfolding retired
   retired-buffers-good position rows =
-      let x : Row = rowAt rows position in
+      let x : Row = rowAt (s .c) rows position in
       pick-good (λ (w : Bool × Buffers). GoodBuffers s (w .1)) (eqb (s .mode) 1)
       (pick-good (λ (w : Bool × Buffers). GoodBuffers s (w .1)) (eqb (x .kind) writeKind)
       (retired-write-good x (newestWrite s position (x .address) rows))
@@ -102,9 +102,9 @@ Kept s w = GoodRows s (w .1 .0) × GoodBuffers s (w .1 .1)
 
 module _ (s : Setup) (r : Ranges s) (position : ℕ) (h : position < s .c) (rows : List ℕ) (gr : GoodRows s rows) (q : Buffers) (gq : GoodBuffers s q) where
   seated-good : (x : Row) (w : Bool × Buffers) → rowOk (wordsOf s) (s .c) x ≡ true → GoodBuffers s (w .1)
-      → Kept s (seated position x rows w)
+      → Kept s (seated s position x rows w)
   seated-good x w ok gw = (
-    put-row-good s rows gr position (pick (w .0) x emptyRow)
+    put-row-good s rows gr position (pick (w .0) x emptyRow) h
         (pick-good (λ (y : Row). rowOk (wordsOf s) (s .c) y ≡ true) (w .0) ok (empty-row-ok (wordsOf s) (s .c))),
     gw,
   )
@@ -118,13 +118,13 @@ module _ (s : Setup) (r : Ranges s) (position : ℕ) (h : position < s .c) (rows
   read-merged-good : (a : Address) → a .0 < wordsOf s → (f : Found) → ((i : ℕ) → f ≡ At i → i < s .c)
       → Kept s (readMerged s position a f rows q)
   read-merged-good a l (At i) m =
-      let ok = joined-ok (wordsOf s) (s .c) a (rowAt rows i) l (gr .ok i (m i refl)) in
-      (put-row-good s rows gr position (joined a (rowAt rows i)) ok, gq)
+      let ok = joined-ok (wordsOf s) (s .c) a (rowAt (s .c) rows i) l (gr .ok i (m i refl)) in
+      (put-row-good s rows gr position (joined a (rowAt (s .c) rows i)) h ok, gq)
   read-merged-good a l Nothing m = read-placed-good a l
 
   pub arrived-parts-good : (op : Operation) → addressOk s op ≡ true → Kept s (arrived s position op rows q)
   unfolding arrived
-  arrived-parts-good Idle t = (put-row-good s rows gr position emptyRow (empty-row-ok (wordsOf s) (s .c)), gq)
+  arrived-parts-good Idle t = (put-row-good s rows gr position emptyRow h (empty-row-ok (wordsOf s) (s .c)), gq)
   arrived-parts-good (Read a) t =
       let l : a .0 < wordsOf s = ltb-true (a .0) (wordsOf s) t in
       pick-good (Kept s) (eqb (s .mode) 1)
@@ -133,7 +133,7 @@ module _ (s : Setup) (r : Ranges s) (position : ℕ) (h : position < s .c) (rows
   arrived-parts-good (Write a w) t =
       let ok = write-row-ok (wordsOf s) (s .c) (a .0) (ltb-true (a .0) (wordsOf s) t) w in
       pick-good (Kept s) (eqb (s .mode) 1)
-      (put-row-good s rows gr position (rowWith writeKind (a .0) w 0) ok, gq)
+      (put-row-good s rows gr position (rowWith writeKind (a .0) w 0) h ok, gq)
       (seated-good (rowWith writeKind (a .0) w 0) (placed s (writeOf s a w) q) ok
       (placed-good s (writeOf s a w) q gq (write-entry-ok s r a w)))
 

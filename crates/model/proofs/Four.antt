@@ -84,14 +84,61 @@ module _ {A : Type 0} (f : ℕ → ℕ → ℕ → ℕ → A) (l : List ℕ) (i 
 ------------------------------------------------------------------------
 -- Rows
 
-pub length-put-row : (l : List ℕ) (i : ℕ) (r : Row) → length (putRow l i r) ≡ length l
-length-put-row l i r = length-put-four l i (r .kind) (r .address .0) (r .word) (r .link)
+pub length-put-row : (c : ℕ) (l : List ℕ) (i : ℕ) (r : Row) → length (putRow c l i r) ≡ length l
+length-put-row c l i r = simp length-set
 
-pub row-put-same : (l : List ℕ) (i : ℕ) (r : Row) → 4 * i + 4 ≤ length l → rowAt (putRow l i r) i ≡ r
-row-put-same l i r h = four-put-same rowWith l i (r .kind) (r .address .0) (r .word) (r .link) h
+module _ (c : ℕ) (l : List ℕ) (i : ℕ) (r : Row) where
+  -- the room after one, two and three of the four stores
+  abbrev one-in : List ℕ
+  one-in = set l i (r .kind)
 
-pub row-put-other : (l : List ℕ) (i : ℕ) (r : Row) (j : ℕ) → (j ≡ i → ⊥) → rowAt (putRow l i r) j ≡ rowAt l j
-row-put-other l i r j n = four-put-other rowWith l i (r .kind) (r .address .0) (r .word) (r .link) j n
+  abbrev two-in : List ℕ
+  two-in = set one-in (c + i) (r .address .0)
+
+  abbrev three-in : List ℕ
+  three-in = set two-in (2 * c + i) (r .link)
+
+  -- a number at none of the four places is as it was
+  put-aside : (q : ℕ) → (q ≡ i → ⊥) → (q ≡ c + i → ⊥) → (q ≡ 2 * c + i → ⊥) → (q ≡ 3 * c + i → ⊥) → getD (putRow c l i r) q 0 ≡ getD l q 0
+  put-aside q h₀ h₁ h₂ h₃ =
+      getD-set-other three-in (3 * c + i) q (r .word) 0 h₃
+      ∙ getD-set-other two-in (2 * c + i) q (r .link) 0 h₂
+      ∙ getD-set-other one-in (c + i) q (r .address .0) 0 h₁
+      ∙ getD-set-other l i q (r .kind) 0 h₀
+
+  module _ (h : i < c) (long : 4 * c ≤ length l) where
+    put-kind : getD (putRow c l i r) i 0 ≡ r .kind
+    put-kind =
+        getD-set-other three-in (3 * c + i) i (r .word) 0 (λ e. omega arith)
+        ∙ getD-set-other two-in (2 * c + i) i (r .link) 0 (λ e. omega arith)
+        ∙ getD-set-other one-in (c + i) i (r .address .0) 0 (λ e. omega arith)
+        ∙ getD-set-same l i (r .kind) 0 (omega arith)
+
+    put-address : getD (putRow c l i r) (c + i) 0 ≡ r .address .0
+    put-address =
+        getD-set-other three-in (3 * c + i) (c + i) (r .word) 0 (λ e. omega arith)
+        ∙ getD-set-other two-in (2 * c + i) (c + i) (r .link) 0 (λ e. omega arith)
+        ∙ getD-set-same one-in (c + i) (r .address .0) 0 (simp length-set (omega arith))
+
+    put-link : getD (putRow c l i r) (2 * c + i) 0 ≡ r .link
+    put-link =
+        getD-set-other three-in (3 * c + i) (2 * c + i) (r .word) 0 (λ e. omega arith)
+        ∙ getD-set-same two-in (2 * c + i) (r .link) 0 (simp length-set (omega arith))
+
+    put-word : getD (putRow c l i r) (3 * c + i) 0 ≡ r .word
+    put-word = getD-set-same three-in (3 * c + i) (r .word) 0 (simp length-set (omega arith))
+
+    pub row-put-same : rowAt c (putRow c l i r) i ≡ r
+    row-put-same = rw (put-kind, put-address, put-link, put-word)
+
+  pub row-put-other : (j : ℕ) → i < c → j < c → (j ≡ i → ⊥) → rowAt c (putRow c l i r) j ≡ rowAt c l j
+  row-put-other j h hj n =
+      rw (
+        put-aside j n (λ e. omega arith) (λ e. omega arith) (λ e. omega arith),
+        put-aside (c + j) (λ e. omega arith) (λ e. n (omega arith)) (λ e. omega arith) (λ e. omega arith),
+        put-aside (2 * c + j) (λ e. omega arith) (λ e. omega arith) (λ e. n (omega arith)) (λ e. omega arith),
+        put-aside (3 * c + j) (λ e. omega arith) (λ e. omega arith) (λ e. omega arith) (λ e. n (omega arith)),
+      )
 
 ------------------------------------------------------------------------
 -- Entries

@@ -54,11 +54,11 @@ module _ (s : Setup) (memory rows entries heads : List ℕ) (g : Good s (lent me
   pub good-row-within : (i : ℕ) → i < s .c → 4 * i + 4 ≤ length rows
   good-row-within i h = omega (arith, g .rows-long)
 
-  pub good-row-address : (i : ℕ) → i < s .c → (rowAt rows i .kind ≡ emptyKind → ⊥) → rowAt rows i .address .0 < wordsOf s
-  good-row-address i h = row-address (wordsOf s) (s .c) (rowAt rows i) (g .rows-ok i h)
+  pub good-row-address : (i : ℕ) → i < s .c → (rowAt (s .c) rows i .kind ≡ emptyKind → ⊥) → rowAt (s .c) rows i .address .0 < wordsOf s
+  good-row-address i h = row-address (wordsOf s) (s .c) (rowAt (s .c) rows i) (g .rows-ok i h)
 
-  pub good-row-link : (i : ℕ) → i < s .c → rowAt rows i .kind ≡ waitingKind → rowAt rows i .link < s .c
-  good-row-link i h = row-link (wordsOf s) (s .c) (rowAt rows i) (g .rows-ok i h)
+  pub good-row-link : (i : ℕ) → i < s .c → rowAt (s .c) rows i .kind ≡ waitingKind → rowAt (s .c) rows i .link < s .c
+  good-row-link i h = row-link (wordsOf s) (s .c) (rowAt (s .c) rows i) (g .rows-ok i h)
 
   module _ (b : ℕ) (h : b < banksOf s) where
     -- head b is one of the B

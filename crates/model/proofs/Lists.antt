@@ -33,15 +33,15 @@ module _ {A : Type 0} where
       (below-constant n (λ i. f (suc i)) x (λ i l. h (suc i) (omega arith)))
 
   -- the element at i alone changed
-  pub set-below : (n : ℕ) (f g : ℕ → A) (i : ℕ) (x : A) → i < n → g i ≡ x → ((j : ℕ) → (j ≡ i → ⊥) → g j ≡ f j)
+  pub set-below : (n : ℕ) (f g : ℕ → A) (i : ℕ) (x : A) → i < n → g i ≡ x → ((j : ℕ) → j < n → (j ≡ i → ⊥) → g j ≡ f j)
       → set (below n f) i x ≡ below n g
   set-below zero f g i x h e o = refl
   set-below (suc n) f g zero x h e o =
       ap₂ {A = A} {B = List A} (λ y l. y ∷ l) (sym e)
-      (below-same n (λ j. f (suc j)) (λ j. g (suc j)) (λ j l. sym (o (suc j) (λ z. omega arith))))
+      (below-same n (λ j. f (suc j)) (λ j. g (suc j)) (λ j l. sym (o (suc j) (omega arith) (λ z. omega arith))))
   set-below (suc n) f g (suc i) x h e o =
-      ap₂ {A = A} {B = List A} (λ y l. y ∷ l) (sym (o zero (λ z. omega arith)))
-      (set-below n (λ j. f (suc j)) (λ j. g (suc j)) i x (omega arith) e (λ j m. o (suc j) (λ z. m (omega arith))))
+      ap₂ {A = A} {B = List A} (λ y l. y ∷ l) (sym (o zero (omega arith) (λ z. omega arith)))
+      (set-below n (λ j. f (suc j)) (λ j. g (suc j)) i x (omega arith) e (λ j l m. o (suc j) (omega arith) (λ z. m (omega arith))))
 
   -- one element more, at the end
   pub below-last : (n : ℕ) (f : ℕ → A) → below (suc n) f ≡ below n f ++ f n ∷ []

@@ -68,13 +68,13 @@ module _ (s : Setup) (heads : List ℕ) (b : ℕ) where
 -- Every row, every waiting entry of a buffer, every buffer
 
 module _ (n c : ℕ) (rows : List ℕ) (k : ℕ) where
-  pub rows-each : rowsOk n c rows k ≡ true → (i : ℕ) → i < k → rowOk n c (rowAt rows i) ≡ true
+  pub rows-each : rowsOk n c rows k ≡ true → (i : ℕ) → i < k → rowOk n c (rowAt c rows i) ≡ true
   unfolding rowsOk
-  rows-each = each-below (λ (i : ℕ). rowOk n c (rowAt rows i)) (rowsOk n c rows) refl (λ i. refl) k
+  rows-each = each-below (λ (i : ℕ). rowOk n c (rowAt c rows i)) (rowsOk n c rows) refl (λ i. refl) k
 
-  pub rows-all : ((i : ℕ) → i < k → rowOk n c (rowAt rows i) ≡ true) → rowsOk n c rows k ≡ true
+  pub rows-all : ((i : ℕ) → i < k → rowOk n c (rowAt c rows i) ≡ true) → rowsOk n c rows k ≡ true
   unfolding rowsOk
-  rows-all = all-below (λ (i : ℕ). rowOk n c (rowAt rows i)) (rowsOk n c rows) refl (λ i. refl) k
+  rows-all = all-below (λ (i : ℕ). rowOk n c (rowAt c rows i)) (rowsOk n c rows) refl (λ i. refl) k
 
 module _ (s : Setup) (q : Buffers) (b k : ℕ) where
   pub entries-each : entriesOk s q b k ≡ true → (i : ℕ) → i < k → entryOk (wordsOf s) (s .c) (waitingEntry s q b i) ≡ true

@@ -35,13 +35,13 @@ c-least-one s r =
     omega (arith, r .delta-least, r .c-least)
 
 module _ (s : Setup) where
-  pub fresh-row : (i : ℕ) → i < s .c → rowAt (replicate (4 * s .c) 0) i ≡ emptyRow
+  pub fresh-row : (i : ℕ) → i < s .c → rowAt (s .c) (replicate (4 * s .c) 0) i ≡ emptyRow
   fresh-row i l =
       rw (
-        getD-replicate {A = ℕ} (4 * s .c) (4 * i) 0 0 (omega arith),
-        getD-replicate {A = ℕ} (4 * s .c) (4 * i + 1) 0 0 (omega arith),
-        getD-replicate {A = ℕ} (4 * s .c) (4 * i + 2) 0 0 (omega arith),
-        getD-replicate {A = ℕ} (4 * s .c) (4 * i + 3) 0 0 (omega arith),
+        getD-replicate {A = ℕ} (4 * s .c) i 0 0 (omega arith),
+        getD-replicate {A = ℕ} (4 * s .c) (s .c + i) 0 0 (omega arith),
+        getD-replicate {A = ℕ} (4 * s .c) (2 * s .c + i) 0 0 (omega arith),
+        getD-replicate {A = ℕ} (4 * s .c) (3 * s .c + i) 0 0 (omega arith),
       )
 
   fresh-rows-good : GoodRows s (replicate (4 * s .c) 0)

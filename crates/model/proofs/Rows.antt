@@ -27,19 +27,19 @@ use Rattle.model.proofs.Range.{row-ok, row-address}
 -- the part of `Good` that speaks of the rows
 pub record GoodRows (s : Setup) (rows : List ℕ) : Type 0 where
   pub long : length rows ≡ 4 * s .c
-  pub ok : (i : ℕ) → i < s .c → rowOk (wordsOf s) (s .c) (rowAt rows i) ≡ true
+  pub ok : (i : ℕ) → i < s .c → rowOk (wordsOf s) (s .c) (rowAt (s .c) rows i) ≡ true
 
-pub put-row-good : (s : Setup) (rows : List ℕ) → GoodRows s rows → (i : ℕ) (r : Row) → rowOk (wordsOf s) (s .c) r ≡ true
-    → GoodRows s (putRow rows i r)
-put-row-good s rows g i r h =
+pub put-row-good : (s : Setup) (rows : List ℕ) → GoodRows s rows → (i : ℕ) (r : Row) → i < s .c → rowOk (wordsOf s) (s .c) r ≡ true
+    → GoodRows s (putRow (s .c) rows i r)
+put-row-good s rows g i r b h =
     record {
-      long = length-put-row rows i r ∙ g .long;
+      long = length-put-row (s .c) rows i r ∙ g .long;
       ok =
           λ j l. ⊎-elim
-          (λ e. ap (λ (k : ℕ). rowOk (wordsOf s) (s .c) (rowAt (putRow rows i r) k)) e
-          ∙ ap (rowOk (wordsOf s) (s .c)) (row-put-same rows i r (omega (arith, g .long)))
+          (λ e. ap (λ (k : ℕ). rowOk (wordsOf s) (s .c) (rowAt (s .c) (putRow (s .c) rows i r) k)) e
+          ∙ ap (rowOk (wordsOf s) (s .c)) (row-put-same (s .c) rows i r b (omega (arith, g .long)))
           ∙ h)
-          (λ n. ap (rowOk (wordsOf s) (s .c)) (row-put-other rows i r j n) ∙ g .ok j l)
+          (λ n. ap (rowOk (wordsOf s) (s .c)) (row-put-other (s .c) rows i r j b l n) ∙ g .ok j l)
           (same-or-not j i);
     }
 
@@ -50,45 +50,45 @@ put-row-good s rows g i r h =
 abbrev pub filled : ℕ → ℕ → ℕ → Row → Row
 filled p w i r = pick (lacks p i r) (withWord r w) r
 
-module _ (p w i : ℕ) (rows : List ℕ) where
-  length-filled-row : length (filledRow p w i rows) ≡ length rows
+module _ (c p w i : ℕ) (rows : List ℕ) where
+  length-filled-row : length (filledRow c p w i rows) ≡ length rows
   length-filled-row =
-      pick-good (λ (l : List ℕ). length l ≡ length rows) (lacks p i (rowAt rows i))
-      (length-put-row rows i (withWord (rowAt rows i) w))
+      pick-good (λ (l : List ℕ). length l ≡ length rows) (lacks p i (rowAt c rows i))
+      (length-put-row c rows i (withWord (rowAt c rows i) w))
       refl
 
-  row-filled-same : 4 * i + 4 ≤ length rows → rowAt (filledRow p w i rows) i ≡ filled p w i (rowAt rows i)
-  row-filled-same h =
-      pick-map (λ (l : List ℕ). rowAt l i) (lacks p i (rowAt rows i)) (putRow rows i (withWord (rowAt rows i) w)) rows
-      ∙ ap (λ (r : Row). pick (lacks p i (rowAt rows i)) r (rowAt rows i)) (row-put-same rows i (withWord (rowAt rows i) w) h)
+  row-filled-same : i < c → 4 * c ≤ length rows → rowAt c (filledRow c p w i rows) i ≡ filled p w i (rowAt c rows i)
+  row-filled-same b h =
+      pick-map (λ (l : List ℕ). rowAt c l i) (lacks p i (rowAt c rows i)) (putRow c rows i (withWord (rowAt c rows i) w)) rows
+      ∙ ap (λ (r : Row). pick (lacks p i (rowAt c rows i)) r (rowAt c rows i)) (row-put-same c rows i (withWord (rowAt c rows i) w) b h)
 
-  row-filled-other : (j : ℕ) → (j ≡ i → ⊥) → rowAt (filledRow p w i rows) j ≡ rowAt rows j
-  row-filled-other j n =
-      pick-good (λ (l : List ℕ). rowAt l j ≡ rowAt rows j) (lacks p i (rowAt rows i))
-      (row-put-other rows i (withWord (rowAt rows i) w) j n)
+  row-filled-other : (j : ℕ) → i < c → j < c → (j ≡ i → ⊥) → rowAt c (filledRow c p w i rows) j ≡ rowAt c rows j
+  row-filled-other j b l n =
+      pick-good (λ (l : List ℕ). rowAt c l j ≡ rowAt c rows j) (lacks p i (rowAt c rows i))
+      (row-put-other c rows i (withWord (rowAt c rows i) w) j b l n)
       refl
 
-pub length-filled : (p w n : ℕ) (rows : List ℕ) → length (filledBelow p w n rows) ≡ length rows
+pub length-filled : (c p w n : ℕ) (rows : List ℕ) → length (filledBelow c p w n rows) ≡ length rows
 unfolding filledBelow
-length-filled p w zero rows = refl
-length-filled p w (suc n) rows = length-filled-row p w n (filledBelow p w n rows) ∙ length-filled p w n rows
+length-filled c p w zero rows = refl
+length-filled c p w (suc n) rows = length-filled-row c p w n (filledBelow c p w n rows) ∙ length-filled c p w n rows
 
-pub row-filled-above : (p w n : ℕ) (rows : List ℕ) (i : ℕ) → n ≤ i → rowAt (filledBelow p w n rows) i ≡ rowAt rows i
+pub row-filled-above : (c p w n : ℕ) (rows : List ℕ) (i : ℕ) → i < c → n ≤ i → rowAt c (filledBelow c p w n rows) i ≡ rowAt c rows i
 unfolding filledBelow
-row-filled-above p w zero rows i h = refl
-row-filled-above p w (suc n) rows i h =
-    row-filled-other p w n (filledBelow p w n rows) i (λ e. omega arith) ∙ row-filled-above p w n rows i (omega arith)
+row-filled-above c p w zero rows i b h = refl
+row-filled-above c p w (suc n) rows i b h =
+    row-filled-other c p w n (filledBelow c p w n rows) i (omega arith) b (λ e. omega arith) ∙ row-filled-above c p w n rows i b (omega arith)
 
-pub row-filled-below : (p w n : ℕ) (rows : List ℕ) (i : ℕ) → 4 * n ≤ length rows → i < n
-    → rowAt (filledBelow p w n rows) i ≡ filled p w i (rowAt rows i)
+pub row-filled-below : (c p w n : ℕ) (rows : List ℕ) (i : ℕ) → n ≤ c → 4 * c ≤ length rows → i < n
+    → rowAt c (filledBelow c p w n rows) i ≡ filled p w i (rowAt c rows i)
 unfolding filledBelow
-row-filled-below p w zero rows i h l = absurd (not-suc-le-zero l)
-row-filled-below p w (suc n) rows i h l =
+row-filled-below c p w zero rows i m h l = absurd (not-suc-le-zero l)
+row-filled-below c p w (suc n) rows i m h l =
     ⊎-elim
     (λ e. rw e
-    (row-filled-same p w n (filledBelow p w n rows) (omega (arith, length-filled p w n rows))
-    ∙ ap (λ (r : Row). filled p w n r) (row-filled-above p w n rows n (omega arith))))
-    (λ m. row-filled-other p w n (filledBelow p w n rows) i m ∙ row-filled-below p w n rows i (omega arith) (omega arith))
+    (row-filled-same c p w n (filledBelow c p w n rows) m (omega (arith, length-filled c p w n rows))
+    ∙ ap (λ (r : Row). filled p w n r) (row-filled-above c p w n rows n m (omega arith))))
+    (λ d. row-filled-other c p w n (filledBelow c p w n rows) i m (omega arith) d ∙ row-filled-below c p w n rows i (omega arith) h (omega arith))
     (same-or-not i n)
 
 -- a row that lacks a word is no empty row, so its address is in range
@@ -103,15 +103,15 @@ filled-ok n c p w i r h =
     (λ l. row-ok n c (withWord r w) (omega arith) (λ e. lacking-address n c p i r h l) (λ e. absurd (omega arith)))
     (λ l. h)
 
-pub filled-good : (s : Setup) (rows : List ℕ) → GoodRows s rows → (p w n : ℕ) → n ≤ s .c → GoodRows s (filledBelow p w n rows)
+pub filled-good : (s : Setup) (rows : List ℕ) → GoodRows s rows → (p w n : ℕ) → n ≤ s .c → GoodRows s (filledBelow (s .c) p w n rows)
 filled-good s rows g p w n h =
     record {
-      long = length-filled p w n rows ∙ g .long;
+      long = length-filled (s .c) p w n rows ∙ g .long;
       ok =
           λ i l. ⊎-elim
-          (λ b. ap (rowOk (wordsOf s) (s .c)) (row-filled-below p w n rows i (omega (arith, g .long)) b)
-          ∙ filled-ok (wordsOf s) (s .c) p w i (rowAt rows i) (g .ok i l))
-          (λ b. ap (rowOk (wordsOf s) (s .c)) (row-filled-above p w n rows i b) ∙ g .ok i l)
+          (λ b. ap (rowOk (wordsOf s) (s .c)) (row-filled-below (s .c) p w n rows i h (omega (arith, g .long)) b)
+          ∙ filled-ok (wordsOf s) (s .c) p w i (rowAt (s .c) rows i) (g .ok i l))
+          (λ b. ap (rowOk (wordsOf s) (s .c)) (row-filled-above (s .c) p w n rows i l b) ∙ g .ok i l)
           (below-or-not i n);
     }
 
@@ -127,7 +127,7 @@ unfolding scan
 scan-within f c rows zero i h l = tt
 scan-within f c rows (suc n) i h l =
     let b : back c i 1 < c = back-below c i 1 l (omega arith) in
-    pick-good (Within c) (f (rowAt rows (back c i 1))) b (scan-within f c rows n (back c i 1) h b)
+    pick-good (Within c) (f (rowAt c rows (back c i 1))) b (scan-within f c rows n (back c i 1) h b)
 
 pub scan-below : (f : Row → Bool) (c : ℕ) (rows : List ℕ) (n i : ℕ) {j : ℕ} → i < c → scan f c rows n i ≡ At j → j < c
 scan-below f c rows n i l e = subst (λ (x : Found). Within c x) e (scan-within f c rows n i (omega arith) l)

@@ -28,7 +28,7 @@ module _ (s : Setup) (e : Entry) (memory rows : List ℕ) where
   carried-write h = rw (eq-eqb (e .kind) writeEntry h)
 
   pub carried-read : (e .kind ≡ writeEntry → ⊥)
-      → carried s e (memory, rows) ≡ (memory, filledBelow (e .row) (getD memory (e .cell .0) 0) (s .c) rows)
+      → carried s e (memory, rows) ≡ (memory, filledBelow (s .c) (e .row) (getD memory (e .cell .0) 0) (s .c) rows)
   unfolding carried
   carried-read h = rw (ne-eqb (e .kind) writeEntry h)
 

@@ -38,7 +38,7 @@ shownEntry e = pick (eqb (e .kind) writeEntry) (wr (e .cell .0) (e .word)) (rd (
 
 -- row by row
 abbrev pub shownTab : Setup → List ℕ → List (machine.Row ℕ)
-shownTab s rows = below (s .c) (λ i. shownRow s (rowAt rows i))
+shownTab s rows = below (s .c) (λ i. shownRow s (rowAt (s .c) rows i))
 
 -- what waits at bank b, the oldest first
 abbrev pub shownBuf : Setup → Buffers → ℕ → List (machine.Entry ℕ)

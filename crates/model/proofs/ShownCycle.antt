@@ -52,7 +52,7 @@ delivery-shown s t x g h =
     let l : p < s .c = back-below (s .c) (t .position) (s .delta) h (g .ranges .c-least) in
     ap (λ (i : ℕ). out (getD (shownTab s (x .rows)) i none)) (ago-shown (s .c) (s .delta) (t .position) (omega arith))
     ∙ ap out (tab-at s (x .rows) p l)
-    ∙ row-out s (rowAt (x .rows) p) (row-kind (wordsOf s) (s .c) (rowAt (x .rows) p) (g .rows-ok p l))
+    ∙ row-out s (rowAt (s .c) (x .rows) p) (row-kind (wordsOf s) (s .c) (rowAt (s .c) (x .rows) p) (g .rows-ok p l))
 
 ------------------------------------------------------------------------
 -- An entry is placed
@@ -135,10 +135,10 @@ module _ (s : Setup) (t : State) (x : Lent) (g : Good s x) where
     retirement-shown = go (merging s)
       where
         go : (m : Bool) → retireC m (configOf s) (s .k) (shown s t x)
-            ≡ shownKept s t x (pick m (retiredRow s (t .position) (rowAt (x .rows) (t .position)) (x .rows) (x .buffers)) (true, x .buffers))
+            ≡ shownKept s t x (pick m (retiredRow s (t .position) (rowAt (s .c) (x .rows) (t .position)) (x .rows) (x .buffers)) (true, x .buffers))
         go true =
             ap (λ (r : machine.Row ℕ). retireRowC (configOf s) (s .k) r (shown s t x)) (tab-at s (x .rows) (t .position) h)
-            ∙ retire-row (rowAt (x .rows) (t .position)) (g .rows-ok (t .position) h)
+            ∙ retire-row (rowAt (s .c) (x .rows) (t .position)) (g .rows-ok (t .position) h)
         go false = refl
 
 -- where it finds a buffer full, the buffers are as they were
@@ -148,15 +148,15 @@ Unmoved q w = w .0 ≡ false → w .1 ≡ q
 pub retired-unmoved : (s : Setup) (position : ℕ) (rows : List ℕ) (q : Buffers) → retired s position rows q .0 ≡ false → retired s position rows q .1 ≡ q
 unfolding retired placed
 retired-unmoved s position rows q =
-    let r : Row = rowAt rows position in
+    let r : Row = rowAt (s .c) rows position in
     pick-good (Unmoved q) (merging s)
     (pick-good (Unmoved q) (eqb (r .kind) writeKind) (go (newestWrite s position (r .address) rows)) (λ e. refl))
     (λ e. refl)
   where
-    go : (f : Found) → Unmoved q (retiredWrite s (rowAt rows position) f q)
+    go : (f : Found) → Unmoved q (retiredWrite s (rowAt (s .c) rows position) f q)
     go (At i) = λ e. refl
     go Nothing =
-        let r : Row = rowAt rows position in
+        let r : Row = rowAt (s .c) rows position in
         pick-good (Unmoved q) (eqb (countOf (q .heads) (bankOf s (cellOf s (r .address)))) (s .k)) (λ e. refl) (λ e. absurd (false≢true (sym e)))
 
 ------------------------------------------------------------------------
@@ -183,7 +183,7 @@ module _ (s : Setup) (t : State) (x : Lent) where
 module _ (s : Setup) (t : State) (turn : t .turn < s .m) (h : t .position < s .c) where
   -- the row of this cycle is filled, and the next cycle begins
   note-shown : (x : Lent) → GoodRows s (x .rows) → (r : Row)
-      → noteC (configOf s) (shownRow s r) (shown s t x) ≡ shown s (nextState s t) (withArrived (noted (t .position) r (x .rows) (x .buffers)) x)
+      → noteC (configOf s) (shownRow s r) (shown s t x) ≡ shown s (nextState s t) (withArrived (noted s (t .position) r (x .rows) (x .buffers)) x)
   note-shown x g r =
       let n : suc (s .c - 1) ≡ s .c = omega arith in
       same-machine
@@ -194,46 +194,46 @@ module _ (s : Setup) (t : State) (turn : t .turn < s .m) (h : t .position < s .c
       (ap (λ (c : ℕ). concrete.onward c (t .position)) n ∙ onward-shown (s .c) (t .position) h)
 
   module _ (x : Lent) (g : Good s x) where
-    only-shown : (r : Row) → land s t x (only (shownRow s r)) ≡ shownLanded s t x (noted (t .position) r (x .rows) (x .buffers))
+    only-shown : (r : Row) → land s t x (only (shownRow s r)) ≡ shownLanded s t x (noted s (t .position) r (x .rows) (x .buffers))
     only-shown r = ap (landed true) (note-shown x (good-rows s x g) r)
 
     seat-shown : (e : Entry) (r : Row)
         → land s t x (needs (bankOf s (e .cell)) (shownEntry e) (shownRow s r))
-        ≡ shownLanded s t x (seated (t .position) r (x .rows) (placed s e (x .buffers)))
+        ≡ shownLanded s t x (seated s (t .position) r (x .rows) (placed s e (x .buffers)))
     seat-shown e r =
         let b : ℕ = bankOf s (e .cell) in
         ⊎-elim
         (λ f. ap (λ (d : Bool). landed d (seatC d (configOf s) b (shownEntry e) (shownRow s r) (shown s t x))) (full-shown s (x .buffers) b f)
         ∙ ap (landed false) (note-shown x (good-rows s x g) emptyRow)
-        ∙ ap (λ (w : Bool × Buffers). shownLanded s t x (seated (t .position) r (x .rows) w)) (sym (placed-full s e (x .buffers) f)))
+        ∙ ap (λ (w : Bool × Buffers). shownLanded s t x (seated s (t .position) r (x .rows) w)) (sym (placed-full s e (x .buffers) f)))
         (λ n. ap (λ (d : Bool). landed d (seatC d (configOf s) b (shownEntry e) (shownRow s r) (shown s t x))) (room-free s t x g e n)
         ∙ ap (λ (c : CSt ℕ). landed true (noteC (configOf s) (shownRow s r) c)) (push-shown s t x g e n)
         ∙ ap (landed true) (note-shown (withBuffers (placedAt s b e (x .buffers)) x) (good-rows s x g) r)
-        ∙ ap (λ (w : Bool × Buffers). shownLanded s t x (seated (t .position) r (x .rows) w)) (sym (placed-room s e (x .buffers) n)))
+        ∙ ap (λ (w : Bool × Buffers). shownLanded s t x (seated s (t .position) r (x .rows) w)) (sym (placed-room s e (x .buffers) n)))
         (same-or-not (countOf (x .buffers .heads) b) (s .k))
 
     -- a read that finds the row r live
     echo-shown : (a : Address) (r : Row) → r .kind ≤ waitingKind → isOf a r ≡ true
         → land s t x (echoed s t x a (shownRow s r))
-        ≡ shownLanded s t x (noted (t .position) (joined a r) (x .rows) (x .buffers))
+        ≡ shownLanded s t x (noted s (t .position) (joined a r) (x .rows) (x .buffers))
     echo-shown a r =
         by-kind
         (λ (k : ℕ). isOf a (ofKind r k) ≡ true
         → land s t x (echoed s t x a (shownRow s (ofKind r k)))
-        ≡ shownLanded s t x (noted (t .position) (joined a (ofKind r k)) (x .rows) (x .buffers)))
+        ≡ shownLanded s t x (noted s (t .position) (joined a (ofKind r k)) (x .rows) (x .buffers)))
         (λ e. absurd (false≢true e))
         (λ e. only-shown (rowWith readKind (a .0) (r .word) 0))
         (λ e. only-shown (rowWith readKind (a .0) (r .word) 0))
         (λ e. only-shown (rowWith waitingKind (a .0) 0 (r .link)))
         (r .kind)
 
-    merge-shown : (a : Address) (f : Found) → ((i : ℕ) → f ≡ At i → (i < s .c) × (isOf a (rowAt (x .rows) i) ≡ true))
+    merge-shown : (a : Address) (f : Found) → ((i : ℕ) → f ≡ At i → (i < s .c) × (isOf a (rowAt (s .c) (x .rows) i) ≡ true))
         → land s t x (merged s t x a (shownFound f))
         ≡ shownLanded s t x (readMerged s (t .position) a f (x .rows) (x .buffers))
     merge-shown a (At i) n =
         let l : i < s .c = n i refl .0 in
         ap (λ (r : machine.Row ℕ). land s t x (echoed s t x a r)) (tab-at s (x .rows) i l)
-        ∙ echo-shown a (rowAt (x .rows) i) (row-kind (wordsOf s) (s .c) (rowAt (x .rows) i) (g .rows-ok i l)) (n i refl .1)
+        ∙ echo-shown a (rowAt (s .c) (x .rows) i) (row-kind (wordsOf s) (s .c) (rowAt (s .c) (x .rows) i) (g .rows-ok i l)) (n i refl .1)
     merge-shown a Nothing n = seat-shown (readOf s (t .position) a) (rowWith waitingKind (a .0) 0 (t .position))
 
     read-shown : (a : Address) → a .0 < wordsOf s → (m : Bool)
@@ -250,7 +250,7 @@ module _ (s : Setup) (t : State) (turn : t .turn < s .m) (h : t .position < s .c
     write-shown : (a : Address) (w : ℕ) (m : Bool)
         → arriveC m (configOf s) (s .k) (write (cellOf s a .0) w) (shown s t x)
         ≡ shownLanded s t x
-        (pick m (noted (t .position) (rowWith writeKind (a .0) w 0) (x .rows) (x .buffers)) (seated (t .position) (rowWith writeKind (a .0) w 0) (x .rows) (placed s (writeOf s a w) (x .buffers))))
+        (pick m (noted s (t .position) (rowWith writeKind (a .0) w 0) (x .rows) (x .buffers)) (seated s (t .position) (rowWith writeKind (a .0) w 0) (x .rows) (placed s (writeOf s a w) (x .buffers))))
     write-shown a w true = only-shown (rowWith writeKind (a .0) w 0)
     write-shown a w false = seat-shown (writeOf s a w) (rowWith writeKind (a .0) w 0)
 

@@ -98,30 +98,30 @@ module _ (s : Setup) (g : Ranges s) (a : Address) (h : a .0 < wordsOf s) (r : Ro
 -- The table
 
 module _ (s : Setup) (rows : List ℕ) where
-  pub tab-at : (i : ℕ) → i < s .c → getD (shownTab s rows) i none ≡ shownRow s (rowAt rows i)
-  tab-at i h = getD-below (s .c) (λ j. shownRow s (rowAt rows j)) none i h
+  pub tab-at : (i : ℕ) → i < s .c → getD (shownTab s rows) i none ≡ shownRow s (rowAt (s .c) rows i)
+  tab-at i h = getD-below (s .c) (λ j. shownRow s (rowAt (s .c) rows j)) none i h
 
   module _ (g : GoodRows s rows) where
-    pub tab-put : (i : ℕ) (r : Row) → i < s .c → set (shownTab s rows) i (shownRow s r) ≡ shownTab s (putRow rows i r)
+    pub tab-put : (i : ℕ) (r : Row) → i < s .c → set (shownTab s rows) i (shownRow s r) ≡ shownTab s (putRow (s .c) rows i r)
     tab-put i r h =
-        set-below (s .c) (λ j. shownRow s (rowAt rows j)) (λ j. shownRow s (rowAt (putRow rows i r) j)) i (shownRow s r) h
-        (ap (shownRow s) (row-put-same rows i r (omega (arith, g .long))))
-        (λ j n. ap (shownRow s) (row-put-other rows i r j n))
+        set-below (s .c) (λ j. shownRow s (rowAt (s .c) rows j)) (λ j. shownRow s (rowAt (s .c) (putRow (s .c) rows i r) j)) i (shownRow s r) h
+        (ap (shownRow s) (row-put-same (s .c) rows i r h (omega (arith, g .long))))
+        (λ j l n. ap (shownRow s) (row-put-other (s .c) rows i r j h l n))
 
-    pub tab-fill : (p v : ℕ) → fillFrom p v 0 (shownTab s rows) ≡ shownTab s (filledBelow p v (s .c) rows)
+    pub tab-fill : (p v : ℕ) → fillFrom p v 0 (shownTab s rows) ≡ shownTab s (filledBelow (s .c) p v (s .c) rows)
     tab-fill p v =
-        ext-getD none (fillFrom p v 0 (shownTab s rows)) (shownTab s (filledBelow p v (s .c) rows))
+        ext-getD none (fillFrom p v 0 (shownTab s rows)) (shownTab s (filledBelow (s .c) p v (s .c) rows))
         (length-fill p v 0 (shownTab s rows) ∙ length-below (s .c) _ ∙ sym (length-below (s .c) _))
-        (λ i l. row-by-row i (omega (arith, length-fill p v 0 (shownTab s rows), length-below (s .c) (λ j. shownRow s (rowAt rows j)))))
+        (λ i l. row-by-row i (omega (arith, length-fill p v 0 (shownTab s rows), length-below (s .c) (λ j. shownRow s (rowAt (s .c) rows j)))))
       where
         row-by-row : (i : ℕ) → i < s .c
-            → getD (fillFrom p v 0 (shownTab s rows)) i none ≡ getD (shownTab s (filledBelow p v (s .c) rows)) i none
+            → getD (fillFrom p v 0 (shownTab s rows)) i none ≡ getD (shownTab s (filledBelow (s .c) p v (s .c) rows)) i none
         row-by-row i h =
             getD-fill p v (shownTab s rows) i
             ∙ ap (fillAt p v i) (tab-at i h)
-            ∙ sym (row-fill s p v i (rowAt rows i) (row-kind (wordsOf s) (s .c) (rowAt rows i) (g .ok i h)))
-            ∙ ap (shownRow s) (sym (row-filled-below p v (s .c) rows i (omega (arith, g .long)) h))
-            ∙ sym (getD-below (s .c) (λ j. shownRow s (rowAt (filledBelow p v (s .c) rows) j)) none i h)
+            ∙ sym (row-fill s p v i (rowAt (s .c) rows i) (row-kind (wordsOf s) (s .c) (rowAt (s .c) rows i) (g .ok i h)))
+            ∙ ap (shownRow s) (sym (row-filled-below (s .c) p v (s .c) rows i (omega arith) (omega (arith, g .long)) h))
+            ∙ sym (getD-below (s .c) (λ j. shownRow s (rowAt (s .c) (filledBelow (s .c) p v (s .c) rows) j)) none i h)
 
 ------------------------------------------------------------------------
 -- Looking back
@@ -145,7 +145,7 @@ module _ (s : Setup) (rows : List ℕ) (test : machine.Row ℕ → Bool) {R : Ty
   look-step false p x e = e
 
   -- where the test agrees with f, it sees what the scan with f finds
-  module _ (f : Row → Bool) (agree : (i : ℕ) → i < s .c → test (shownRow s (rowAt rows i)) ≡ f (rowAt rows i)) (end : (i : ℕ) → look 0 i ≡ seen Nothing) (more : (n i : ℕ) → look (suc n) i ≡ lookedAt n (table.back (s .c - 1) i)) where
+  module _ (f : Row → Bool) (agree : (i : ℕ) → i < s .c → test (shownRow s (rowAt (s .c) rows i)) ≡ f (rowAt (s .c) rows i)) (end : (i : ℕ) → look 0 i ≡ seen Nothing) (more : (n i : ℕ) → look (suc n) i ≡ lookedAt n (table.back (s .c - 1) i)) where
     look-back : (n i : ℕ) → i < s .c → look n i ≡ seen (scan f (s .c) rows n i)
     unfolding scan
     look-back zero i l = end i
@@ -155,7 +155,7 @@ module _ (s : Setup) (rows : List ℕ) (test : machine.Row ℕ → Bool) {R : Ty
         more n i
         ∙ ap (lookedAt n) (back-shown (s .c) i (omega arith))
         ∙ ap (λ (t : Bool). cond t (seen (At p)) (look n p)) (ap test (tab-at s rows p b) ∙ agree p b)
-        ∙ look-step (f (rowAt rows p)) p (scan f (s .c) rows n p) (look-back n p b)
+        ∙ look-step (f (rowAt (s .c) rows p)) p (scan f (s .c) rows n p) (look-back n p b)
 
 module _ (s : Setup) (g : Ranges s) (a : Address) (h : a .0 < wordsOf s) (rows : List ℕ) (ok : GoodRows s rows) where
   pub newer-shown : (n i : ℕ) → i < s .c
@@ -163,7 +163,7 @@ module _ (s : Setup) (g : Ranges s) (a : Address) (h : a .0 < wordsOf s) (rows :
   newer-shown =
       look-back s rows (machine.writes (cellOf s a .0)) isFound (newerBack (s .c - 1) (cellOf s a .0) (shownTab s rows))
       (writes a)
-      (λ i l. row-writes s g a h (rowAt rows i) (ok .ok i l))
+      (λ i l. row-writes s g a h (rowAt (s .c) rows i) (ok .ok i l))
       (λ i. refl)
       (λ n i. refl)
 
@@ -172,20 +172,20 @@ module _ (s : Setup) (g : Ranges s) (a : Address) (h : a .0 < wordsOf s) (rows :
   look-shown =
       look-back s rows (machine.names (cellOf s a .0)) shownFound (lookBack (s .c - 1) (cellOf s a .0) (shownTab s rows))
       (isOf a)
-      (λ i l. row-names s g a h (rowAt rows i) (ok .ok i l))
+      (λ i l. row-names s g a h (rowAt (s .c) rows i) (ok .ok i l))
       (λ i. refl)
       (λ n i. refl)
 
 -- what a lookup finds is such a row
-abbrev Holds : (Row → Bool) → List ℕ → Found → Type 0
-Holds f rows (At i) = f (rowAt rows i) ≡ true
-Holds f rows Nothing = Unit
+abbrev Holds : (Row → Bool) → ℕ → List ℕ → Found → Type 0
+Holds f c rows (At i) = f (rowAt c rows i) ≡ true
+Holds f c rows Nothing = Unit
 
-scan-finds : (f : Row → Bool) (c : ℕ) (rows : List ℕ) (n i : ℕ) → Holds f rows (scan f c rows n i)
+scan-finds : (f : Row → Bool) (c : ℕ) (rows : List ℕ) (n i : ℕ) → Holds f c rows (scan f c rows n i)
 unfolding scan
 scan-finds f c rows zero i = tt
 scan-finds f c rows (suc n) i =
-    pick-either (Holds f rows) (f (rowAt rows (back c i 1))) (λ e. e) (λ e. scan-finds f c rows n (back c i 1))
+    pick-either (Holds f c rows) (f (rowAt c rows (back c i 1))) (λ e. e) (λ e. scan-finds f c rows n (back c i 1))
 
-pub scan-holds : (f : Row → Bool) (c : ℕ) (rows : List ℕ) (n i : ℕ) {j : ℕ} → scan f c rows n i ≡ At j → f (rowAt rows j) ≡ true
-scan-holds f c rows n i e = subst (Holds f rows) e (scan-finds f c rows n i)
+pub scan-holds : (f : Row → Bool) (c : ℕ) (rows : List ℕ) (n i : ℕ) {j : ℕ} → scan f c rows n i ≡ At j → f (rowAt c rows j) ≡ true
+scan-holds f c rows n i e = subst (Holds f c rows) e (scan-finds f c rows n i)

@@ -50,7 +50,7 @@ module _ (s : Setup) (e : Entry) (memory rows : List ℕ) where
   entryIf writes = pick writes (wr (e .cell .0) (e .word)) (rd (e .cell .0) (e .row))
 
   abbrev carriedIf : Bool → List ℕ × List ℕ
-  carriedIf writes = pick writes (set memory (e .cell .0) (e .word), rows) (memory, filledBelow (e .row) (getD memory (e .cell .0) 0) (s .c) rows)
+  carriedIf writes = pick writes (set memory (e .cell .0) (e .word), rows) (memory, filledBelow (s .c) (e .row) (getD memory (e .cell .0) 0) (s .c) rows)
 
   pub carried-memory : e .cell .0 < length memory
       → (a : ℕ) → upd a (asOp (shownEntry e)) (getD memory a 0) ≡ getD (carried s e (memory, rows) .0) a 0

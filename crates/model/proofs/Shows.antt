@@ -66,7 +66,7 @@ fresh-shown s x r =
     (same-machine
     (λ b. none-shown s (freshLent s x .buffers) b (fresh-none s b))
     (λ a. refl)
-    (below-constant (s .c) (λ i. shownRow s (rowAt (replicate (4 * s .c) 0) i)) none (λ i l. ap (shownRow s) (fresh-row s i l))
+    (below-constant (s .c) (λ i. shownRow s (rowAt (s .c) (replicate (4 * s .c) 0) i)) none (λ i l. ap (shownRow s) (fresh-row s i l))
     ∙ ap (λ (c : ℕ). replicate c none) n)
     refl
     refl)

@@ -32,20 +32,20 @@ lacks p i r = eqb (r .kind) waitingKind && (eqb i p || eqb (r .link) p)
 abbrev pub withWord : Row → ℕ → Row
 withWord r w = rowWith readKind (r .address .0) w 0
 
-abbrev pub filledRow : ℕ → ℕ → ℕ → List ℕ → List ℕ
-filledRow p w i rows = pick (lacks p i (rowAt rows i)) (putRow rows i (withWord (rowAt rows i) w)) rows
+abbrev pub filledRow : ℕ → ℕ → ℕ → ℕ → List ℕ → List ℕ
+filledRow c p w i rows = pick (lacks p i (rowAt c rows i)) (putRow c rows i (withWord (rowAt c rows i) w)) rows
 
 -- the rows below i, once row p's entry has brought the word w
-unfoldable pub filledBelow : ℕ → ℕ → ℕ → List ℕ → List ℕ
-filledBelow p w zero rows = rows
-filledBelow p w (suc i) rows = filledRow p w i (filledBelow p w i rows)
+unfoldable pub filledBelow : ℕ → ℕ → ℕ → ℕ → List ℕ → List ℕ
+filledBelow c p w zero rows = rows
+filledBelow c p w (suc i) rows = filledRow c p w i (filledBelow c p w i rows)
 
 -- memory and rows once an entry is carried out:
 -- a write entry stores its word at its cell; a read entry's word goes to its row and to every row waiting on that row
 unfoldable pub carried : Setup → Entry → List ℕ × List ℕ → List ℕ × List ℕ
 carried s e (memory, rows) =
     pick (eqb (e .kind) writeEntry) (set memory (e .cell .0) (e .word), rows)
-    (memory, filledBelow (e .row) (getD memory (e .cell .0) 0) (s .c) rows)
+    (memory, filledBelow (s .c) (e .row) (getD memory (e .cell .0) 0) (s .c) rows)
 
 -- the oldest entry of bank b's buffer, among the K of its own part of the entry room
 abbrev pub oldestEntry : Setup → ℕ → Buffers → Entry
@@ -83,7 +83,7 @@ abbrev pub leaves : Row → Delivery
 leaves r = pick (eqb (r .kind) readKind) (Word (r .word)) (pick (eqb (r .kind) waitingKind) Unready None)
 
 abbrev pub delivered : Setup → ℕ → List ℕ → Delivery
-delivered s position rows = leaves (rowAt rows (back (s .c) position (s .delta)))
+delivered s position rows = leaves (rowAt (s .c) rows (back (s .c) position (s .delta)))
 
 ------------------------------------------------------------------------
 -- Looking back through the table, newest first, and placing an entry
@@ -92,7 +92,7 @@ delivered s position rows = leaves (rowAt rows (back (s .c) position (s .delta))
 unfoldable pub scan : (Row → Bool) → ℕ → List ℕ → ℕ → ℕ → Found
 scan f c rows zero i = Nothing
 scan f c rows (suc n) i =
-    pick (f (rowAt rows (back c i 1))) (At (back c i 1)) (scan f c rows n (back c i 1))
+    pick (f (rowAt c rows (back c i 1))) (At (back c i 1)) (scan f c rows n (back c i 1))
 
 -- a row of this address: whole addresses are compared
 abbrev pub isOf : Address → Row → Bool
@@ -142,7 +142,7 @@ retiredRow s position r rows q =
 
 -- in merging mode
 unfoldable pub retired : Setup → ℕ → List ℕ → Buffers → Bool × Buffers
-retired s position rows q = pick (merging s) (retiredRow s position (rowAt rows position) rows q) (true, q)
+retired s position rows q = pick (merging s) (retiredRow s position (rowAt (s .c) rows position) rows q) (true, q)
 
 ------------------------------------------------------------------------
 -- 4. Arrival. The operation fills the row of cycle t. It is taken where this answers true.
@@ -151,17 +151,17 @@ retired s position rows q = pick (merging s) (retiredRow s position (rowAt rows 
 abbrev pub Arrived : Type 0
 Arrived = Bool × (List ℕ × Buffers)
 
-abbrev pub noted : ℕ → Row → List ℕ → Buffers → Arrived
-noted position r rows q = (true, (putRow rows position r, q))
+abbrev pub noted : Setup → ℕ → Row → List ℕ → Buffers → Arrived
+noted s position r rows q = (true, (putRow (s .c) rows position r, q))
 
 -- the row r, where its entry found a place; dropped, its row is empty
-abbrev pub seated : ℕ → Row → List ℕ → Bool × Buffers → Arrived
-seated position r rows (taken, q) = (taken, (putRow rows position (pick taken r emptyRow), q))
+abbrev pub seated : Setup → ℕ → Row → List ℕ → Bool × Buffers → Arrived
+seated s position r rows (taken, q) = (taken, (putRow (s .c) rows position (pick taken r emptyRow), q))
 
 -- a read places an entry, and its row waits on itself
 abbrev pub readPlaced : Setup → ℕ → Address → List ℕ → Buffers → Arrived
 readPlaced s position a rows q =
-    seated position (rowWith waitingKind (a .0) 0 position) rows (placed s (readOf s position a) q)
+    seated s position (rowWith waitingKind (a .0) 0 position) rows (placed s (readOf s position a) q)
 
 -- a write there, or a read with its word, gives the word at once; a read still waiting makes the new row wait on the row whose entry is in the buffer
 abbrev pub joined : Address → Row → Row
@@ -169,7 +169,7 @@ joined a r = pick (eqb (r .kind) waitingKind) (rowWith waitingKind (a .0) 0 (r .
 
 -- with nothing live, the read places an entry
 abbrev pub readMerged : Setup → ℕ → Address → Found → List ℕ → Buffers → Arrived
-readMerged s position a (At i) rows q = noted position (joined a (rowAt rows i)) rows q
+readMerged s position a (At i) rows q = noted s position (joined a (rowAt (s .c) rows i)) rows q
 readMerged s position a Nothing rows q = readPlaced s position a rows q
 
 abbrev pub readArrived : Setup → ℕ → Address → List ℕ → Buffers → Arrived
@@ -180,11 +180,11 @@ readArrived s position a rows q =
 -- merging, a write places nothing; plain, it places an entry
 abbrev pub writeArrived : Setup → ℕ → Address → ℕ → List ℕ → Buffers → Arrived
 writeArrived s position a w rows q =
-    pick (merging s) (noted position (rowWith writeKind (a .0) w 0) rows q)
-    (seated position (rowWith writeKind (a .0) w 0) rows (placed s (writeOf s a w) q))
+    pick (merging s) (noted s position (rowWith writeKind (a .0) w 0) rows q)
+    (seated s position (rowWith writeKind (a .0) w 0) rows (placed s (writeOf s a w) q))
 
 unfoldable pub arrived : Setup → ℕ → Operation → List ℕ → Buffers → Arrived
-arrived s position Idle rows q = noted position emptyRow rows q
+arrived s position Idle rows q = noted s position emptyRow rows q
 arrived s position (Read a) rows q = readArrived s position a rows q
 arrived s position (Write a w) rows q = writeArrived s position a w rows q
 

@@ -12,7 +12,7 @@ pub record Buffers : Type 0 where
   pub entries : List ℕ
   pub heads : List ℕ
 
--- memory: a word a cell. rows: four numbers a row
+-- memory: a word a cell. rows: four numbers a row, by columns
 pub record Lent : Type 0 where
   pub memory : List ℕ
   pub rows : List ℕ
@@ -31,7 +31,7 @@ abbrev pub putFour : List ℕ → ℕ → ℕ → ℕ → ℕ → ℕ → List �
 putFour l i a b c d = set (set (set (set l (4 * i) a) (4 * i + 1) b) (4 * i + 2) c) (4 * i + 3) d
 
 ------------------------------------------------------------------------
--- Rows: kind, address, word, link
+-- Rows: c kinds, then c addresses, then c links, then c words
 
 -- kind 0 is an empty row, 1 a write, 2 a read with its word, 3 a read that waits on the row its link names
 abbrev pub emptyKind : ℕ
@@ -49,11 +49,12 @@ waitingKind = 3
 abbrev pub rowWith : ℕ → ℕ → ℕ → ℕ → Row
 rowWith kind address word link = record { kind = kind; address = record { 0 = address }; word = word; link = link }
 
-abbrev pub rowAt : List ℕ → ℕ → Row
-rowAt l i = rowWith (getD l (4 * i) 0) (getD l (4 * i + 1) 0) (getD l (4 * i + 2) 0) (getD l (4 * i + 3) 0)
+abbrev pub rowAt : ℕ → List ℕ → ℕ → Row
+rowAt c l i = rowWith (getD l i 0) (getD l (c + i) 0) (getD l (3 * c + i) 0) (getD l (2 * c + i) 0)
 
-abbrev pub putRow : List ℕ → ℕ → Row → List ℕ
-putRow l i r = putFour l i (r .kind) (r .address .0) (r .word) (r .link)
+abbrev pub putRow : ℕ → List ℕ → ℕ → Row → List ℕ
+putRow c l i r =
+    set (set (set (set l i (r .kind)) (c + i) (r .address .0)) (2 * c + i) (r .link)) (3 * c + i) (r .word)
 
 abbrev pub emptyRow : Row
 emptyRow = rowWith emptyKind 0 0 0

@@ -36,7 +36,7 @@ rowOk n c r =
 -- the rows below i
 unfoldable pub rowsOk : ℕ → ℕ → List ℕ → ℕ → Bool
 rowsOk n c rows zero = true
-rowsOk n c rows (suc i) = rowsOk n c rows i && rowOk n c (rowAt rows i)
+rowsOk n c rows (suc i) = rowsOk n c rows i && rowOk n c (rowAt c rows i)
 
 -- a waiting entry's kind is one of the two; its cell below n; a row named by it below c
 abbrev pub entryOk : ℕ → ℕ → Entry → Bool
@@ -82,7 +82,7 @@ pub record Good (s : Setup) (x : Lent) : Type 0 where
   pub rows-long : length (x .rows) ≡ lengthsOf s .rows
   pub entries-long : length (x .buffers .entries) ≡ lengthsOf s .entries
   pub heads-long : length (x .buffers .heads) ≡ lengthsOf s .heads
-  pub rows-ok : (i : ℕ) → i < s .c → rowOk (wordsOf s) (s .c) (rowAt (x .rows) i) ≡ true
+  pub rows-ok : (i : ℕ) → i < s .c → rowOk (wordsOf s) (s .c) (rowAt (s .c) (x .rows) i) ≡ true
   pub heads-ok : (b : ℕ) → b < banksOf s → headOk s (x .buffers .heads) b ≡ true
   pub entries-ok : (b i : ℕ) → b < banksOf s → i < countOf (x .buffers .heads) b → entryOk (wordsOf s) (s .c) (waitingEntry s (x .buffers) b i) ≡ true
 

@@ -24,7 +24,7 @@ module _ (s : Setup) (e : Entry) (memory rows : List ℕ) where
   carry-write h = sym (carried-write s e memory rows h)
 
   pub carry-read : {rows′ : List ℕ} → (e .kind ≡ writeEntry → ⊥)
-      → rows′ ≡ filledBelow (e .row) (getD memory (e .cell .0) 0) (s .c) rows → (memory, rows′) ≡ carried s e (memory, rows)
+      → rows′ ≡ filledBelow (s .c) (e .row) (getD memory (e .cell .0) 0) (s .c) rows → (memory, rows′) ≡ carried s e (memory, rows)
   carry-read h p = cc (carried-read s e memory rows h)
 
 module _ (s : Setup) (b : ℕ) (memory rows entries heads : List ℕ) (n : ℕ) (en : n ≡ countOf heads b) where

@@ -1,13 +1,12 @@
--- What a lookup in the table asks of a row, what is known of the place that it answers, and rows by fours.
-use Prim.Native.Nat.{ℕ, _+_, _≤_, _<_}
+-- What a lookup in the table asks of a row, what is known of the place that it answers, and what is known of a part of a column.
+use Prim.Native.Nat.{ℕ, zero, suc, _+_, _*_, _≤_, _<_}
 use mathlib.Core.Bool.{Bool, true, false}
 use mathlib.Core.List.{List}
 use mathlib.Core.Path.{_≡_}
 use lib.ListN.{getD}
 use Rattle.map.specs.declared.Address.{Address}
 use Rattle.model.specs.Lent.{rowAt}
-use Rattle.model.specs.Range.{rowOk}
-use Rattle.model.specs.Cycle.{isOf, writes}
+use Rattle.model.specs.Cycle.{isOf, writes, lacks, filledRow}
 use Rattle.model.specs.declared.Row.{Row}
 use Rattle.model.specs.declared.Found.{Found}
 use Rattle.model.specs.declared.Found.the-variants.{At, Nothing}
@@ -22,14 +21,25 @@ abbrev pub Within : ℕ → Found → Type 0
 Within c (At i) = i < c
 Within c Nothing = Unit
 
--- r is at least each of the four numbers, four apart, from place i
-abbrev pub Joined : ℕ → List ℕ → ℕ → Type 0
-Joined r l i = (getD l i 0 ≤ r) × (getD l (i + 4) 0 ≤ r) × (getD l (i + 8) 0 ≤ r) × (getD l (i + 12) 0 ≤ r)
+-- r is at least each of the n numbers from a place on
+abbrev pub UpTo : ℕ → List ℕ → ℕ → ℕ → Type 0
+UpTo r l at n = (k : ℕ) → k < n → getD l (at + k) 0 ≤ r
 
--- the four rows from place i are in range
-abbrev pub FourOk : ℕ → ℕ → List ℕ → ℕ → Type 0
-FourOk n c l i =
-    (rowOk n c (rowAt l i) ≡ true)
-    × (rowOk n c (rowAt l (i + 1)) ≡ true)
-    × (rowOk n c (rowAt l (i + 2)) ≡ true)
-    × (rowOk n c (rowAt l (i + 3)) ≡ true)
+-- none of the n numbers from a place on is x
+abbrev pub Free : ℕ → List ℕ → ℕ → ℕ → Type 0
+Free x l at n = (k : ℕ) → k < n → getD l (at + k) 0 ≡ x → ⊥
+
+-- none of the n rows from place i on lacks the word that row p's entry brings
+abbrev pub Calm : ℕ → ℕ → List ℕ → ℕ → ℕ → Type 0
+Calm c p l i n = (k : ℕ) → k < n → lacks p (i + k) (rowAt c l (i + k)) ≡ false
+
+-- n rows from place i on, once row p's entry has brought the word w
+unfoldable pub filledFrom : ℕ → ℕ → ℕ → ℕ → ℕ → List ℕ → List ℕ
+filledFrom c p w i zero l = l
+filledFrom c p w i (suc n) l = filledRow c p w (i + n) (filledFrom c p w i n l)
+
+-- the numbers of every row are in range whatever its kind is
+pub record InRange (n c : ℕ) (l : List ℕ) : Type 0 where
+  pub kinds : (i : ℕ) → i < c → getD l i 0 ≤ 3
+  pub addresses : (i : ℕ) → i < c → getD l (c + i) 0 < n
+  pub links : (i : ℕ) → i < c → getD l (2 * c + i) 0 < c

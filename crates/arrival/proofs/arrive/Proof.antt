@@ -1,5 +1,4 @@
--- `arrival::arrive` meets its contract: the cases are the definition's. Assumes nothing.
-use Rattle.arrival.proofs.Ways.{arrive-idle, arrive-reads, arrive-writes}
+use Rattle.arrival.proofs.Ways.{fit-row, arrive-idle, arrive-reads, arrive-writes}
 use borrow.Author.Needs.{needs}
 use Rattle.arrival.proofs.arrive.Statement.{statement}
 use Rattle.arrival.proofs.arrive.Tie as tie
@@ -7,11 +6,14 @@ use Rattle.arrival.proofs.arrive.Tie as tie
 enum-told : tie.Need-enum-told
 enum-told c = search needs
 
+cast-put-row : tie.Need-cast-put-row
+cast-put-row c = search needs
+
 empty-requires : tie.Need-empty-requires
 empty-requires c κs = search needs
 
 put-row-requires : tie.Need-put-row-requires
-put-row-requires c κs = search needs
+put-row-requires c κs = search (fit-row)
 
 enum-known-op : tie.Need-enum-known-op
 enum-known-op c = search needs
@@ -60,6 +62,7 @@ arrive-spec =
     tie.close
     (tie.spec
     enum-told
+    cast-put-row
     empty-requires
     put-row-requires
     enum-known-op

@@ -1,6 +1,5 @@
--- `arrival::deliver` meets its contract: the calls give the row. Assumes nothing.
+use Rattle.arrival.proofs.Ways.{fit-row, deliver-row}
 use borrow.Author.Needs.{needs}
-use Rattle.arrival.proofs.Ways.{deliver-row}
 use Rattle.arrival.proofs.deliver.Statement.{statement}
 use Rattle.arrival.proofs.deliver.Tie as tie
 
@@ -13,6 +12,9 @@ cast-back-2 c = search needs
 back-requires : tie.Need-back-requires
 back-requires c κs = search needs
 
+cast-row-at : tie.Need-cast-row-at
+cast-row-at c = search needs
+
 row-at-requires : tie.Need-row-at-requires
 row-at-requires c κs = search needs
 
@@ -24,4 +26,12 @@ returns c = search (deliver-row)
 
 pub deliver-spec : {M : Type 1} → statement M
 deliver-spec =
-    tie.close (tie.spec cast-back cast-back-2 back-requires row-at-requires leave-requires returns)
+    tie.close
+    (tie.spec
+    cast-back
+    cast-back-2
+    back-requires
+    cast-row-at
+    row-at-requires
+    leave-requires
+    returns)

@@ -1,5 +1,6 @@
--- `arrival::merge_read` meets its contract: what the lookup answered is the case of the definition. Assumes nothing.
-use Rattle.arrival.proofs.Ways.{found-row, merge-none, merge-found}
+use native.Mathlib.Omega.{arith}
+use Rattle.table.proofs.Lookup.{found-below}
+use Rattle.arrival.proofs.Ways.{fit-row, found-row, merge-none, merge-found}
 use borrow.Author.Needs.{needs}
 use Rattle.arrival.proofs.merge_read.Statement.{statement}
 use Rattle.arrival.proofs.merge_read.Tie as tie
@@ -31,14 +32,20 @@ same-length-3 c = search needs
 returns : tie.Need-returns
 returns c = search (merge-none)
 
+cast-row-at : tie.Need-cast-row-at
+cast-row-at c = search needs
+
 row-at-requires : tie.Need-row-at-requires
-row-at-requires c κs = search (found-row)
+row-at-requires c κs = (omega arith, search (found-below))
 
 join-requires : tie.Need-join-requires
 join-requires c κs = search needs
 
+cast-put-row : tie.Need-cast-put-row
+cast-put-row c = search needs
+
 put-row-requires : tie.Need-put-row-requires
-put-row-requires c κs = search needs
+put-row-requires c κs = fit-row _ _ _ _ _ (c .before .before .before .before .before .before .before .before .before .before .before .before .before .before .before .pre .0) (c .before .before .before .before .before .before .before .before .before .before .before .before .before .before .before .pre .1)
 
 same-length-4 : tie.Need-same-length-4
 same-length-4 c = search needs
@@ -59,8 +66,10 @@ merge-read-spec =
     same-length-2
     same-length-3
     returns
+    cast-row-at
     row-at-requires
     join-requires
+    cast-put-row
     put-row-requires
     same-length-4
     returns-2)

@@ -1,5 +1,4 @@
--- `arrival::place_read` meets its contract: the row is noted as its entry found a place or not. Assumes nothing.
-use Rattle.arrival.proofs.Ways.{fit-place, place-seated}
+use Rattle.arrival.proofs.Ways.{fit-row, fit-place, place-seated}
 use borrow.Author.Needs.{needs}
 use Rattle.arrival.proofs.place_read.Statement.{statement}
 use Rattle.arrival.proofs.place_read.Tie as tie
@@ -13,8 +12,11 @@ place-requires c κs = search (fit-place)
 seat-requires : tie.Need-seat-requires
 seat-requires c κs = search needs
 
+cast-put-row : tie.Need-cast-put-row
+cast-put-row c = search needs
+
 put-row-requires : tie.Need-put-row-requires
-put-row-requires c κs = search needs
+put-row-requires c κs = search (fit-row)
 
 same-length : tie.Need-same-length
 same-length c = search needs
@@ -35,6 +37,7 @@ place-read-spec =
     read-entry-requires
     place-requires
     seat-requires
+    cast-put-row
     put-row-requires
     same-length
     same-length-2

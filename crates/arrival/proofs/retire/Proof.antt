@@ -1,11 +1,13 @@
--- `arrival::retire` meets its contract: each return knows the values of the definition's tests. Assumes nothing.
-use Rattle.arrival.proofs.Ways.{retire-plain, retire-other, retire-write}
+use Rattle.arrival.proofs.Ways.{fit-row, retire-plain, retire-other, retire-write}
 use borrow.Author.Needs.{needs}
 use Rattle.arrival.proofs.retire.Statement.{statement}
 use Rattle.arrival.proofs.retire.Tie as tie
 
 returns : tie.Need-returns
 returns c = search (retire-plain)
+
+cast-row-at : tie.Need-cast-row-at
+cast-row-at c = search needs
 
 row-at-requires : tie.Need-row-at-requires
 row-at-requires c κs = search needs
@@ -30,6 +32,7 @@ retire-spec =
     tie.close
     (tie.spec
     returns
+    cast-row-at
     row-at-requires
     returns-2
     retire-write-requires

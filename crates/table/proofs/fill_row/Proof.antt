@@ -1,21 +1,20 @@
--- `table::fill_row` meets its contract, where the row lacks the word and where it does not. Assumes nothing.
 use Prim.Native.Nat.{ℕ}
 use mathlib.Core.Path.{_≡_}
 use mathlib.Core.Bool.{Bool, true, false}
 use mathlib.Core.List.{List}
-use borrow.Author.Needs.{needs}
 use Rattle.model.specs.Lent.{rowAt, putRow}
 use Rattle.model.specs.Cycle.{lacks, withWord, filledRow}
 use Rattle.model.specs.declared.Row.{Row}
+use borrow.Author.Needs.{needs}
 use Rattle.table.proofs.fill_row.Statement.{statement}
 use Rattle.table.proofs.fill_row.Tie as tie
 
 -- row i is r, and t says whether it lacks the word
-module _ (p w i : ℕ) (l : List ℕ) (r : Row) (t : Bool) where
-  fill-lacking : (m : List ℕ) (full : Row) → r ≡ rowAt l i → t ≡ lacks p i r → t ≡ true → full ≡ withWord r w → m ≡ putRow l i full → m ≡ filledRow p w i l
+module _ (c p w i : ℕ) (l : List ℕ) (r : Row) (t : Bool) where
+  fill-lacking : (m : List ℕ) (full : Row) → r ≡ rowAt c l i → t ≡ lacks p i r → t ≡ true → full ≡ withWord r w → m ≡ putRow c l i full → m ≡ filledRow c p w i l
   fill-lacking m full hr ht h hf hm = cc
 
-  fill-other : r ≡ rowAt l i → t ≡ lacks p i r → t ≡ false → l ≡ filledRow p w i l
+  fill-other : r ≡ rowAt c l i → t ≡ lacks p i r → t ≡ false → l ≡ filledRow c p w i l
   fill-other hr ht h = cc
 
 row-at-requires : tie.Need-row-at-requires

@@ -1,58 +1,53 @@
--- `table::joined` meets its contract. Assumes nothing.
+use Prim.Native.Nat.{_-_, _≤_}
+use native.Mathlib.Nat.{not-suc-le-zero}
+use native.Mathlib.Omega.{arith}
+use Rattle.table.specs.Table.{UpTo}
+use Rattle.table.proofs.Columns.{upto-one}
 use borrow.Author.Needs.{needs}
-use Rattle.table.proofs.Fours.{or-four}
 use Rattle.table.proofs.joined.Statement.{statement}
 use Rattle.table.proofs.joined.Tie as tie
 
-mul-result : tie.Need-mul-result
-mul-result c = search needs
+abbrev Inv-loop : tie.InvT-loop
+Inv-loop rows at o₀ j₀ o j = (j ≤ 64) × UpTo o rows at j
 
-shared-slice-read-result : tie.Need-shared-slice-read-result
-shared-slice-read-result c = search needs
+abbrev μ-loop : tie.MeasureT-loop
+μ-loop rows at o₀ j₀ o j = 64 - j
 
-add-result : tie.Need-add-result
-add-result c = search needs
+loop-holds : tie.Need-loop-holds Inv-loop μ-loop
+loop-holds c = (omega arith, λ k h. absurd (not-suc-le-zero h))
 
-mul-result-2 : tie.Need-mul-result-2
-mul-result-2 c = search needs
+add-o : tie.Need-add-o Inv-loop μ-loop
+add-o c = search needs
 
-shared-slice-read-result-2 : tie.Need-shared-slice-read-result-2
-shared-slice-read-result-2 c = search needs
+mul-o : tie.Need-mul-o Inv-loop μ-loop
+mul-o c = search needs
 
-add-result-2 : tie.Need-add-result-2
-add-result-2 c = search needs
+shared-slice-read-o : tie.Need-shared-slice-read-o Inv-loop μ-loop
+shared-slice-read-o c = search needs
 
-mul-result-3 : tie.Need-mul-result-3
-mul-result-3 c = search needs
+add-j : tie.Need-add-j Inv-loop μ-loop
+add-j c = search needs
 
-shared-slice-read-result-3 : tie.Need-shared-slice-read-result-3
-shared-slice-read-result-3 c = search needs
+loop-less : tie.Need-loop-less Inv-loop μ-loop
+loop-less c = search needs
 
-add-result-3 : tie.Need-add-result-3
-add-result-3 c = search needs
+loop-again : tie.Need-loop-again Inv-loop μ-loop
+loop-again c = (omega arith, search upto-one)
 
-mul-result-4 : tie.Need-mul-result-4
-mul-result-4 c = search needs
-
-shared-slice-read-result-4 : tie.Need-shared-slice-read-result-4
-shared-slice-read-result-4 c = search needs
-
-returns : tie.Need-returns
-returns c = or-four _ _ _ _
+returns : tie.Need-returns Inv-loop μ-loop
+returns c = λ k h. c .before .loop .inv .1 k (omega arith)
 
 pub joined-spec : {M : Type 1} → statement M
 joined-spec =
     tie.close
     (tie.spec
-    mul-result
-    shared-slice-read-result
-    add-result
-    mul-result-2
-    shared-slice-read-result-2
-    add-result-2
-    mul-result-3
-    shared-slice-read-result-3
-    add-result-3
-    mul-result-4
-    shared-slice-read-result-4
+    Inv-loop
+    μ-loop
+    loop-holds
+    add-o
+    mul-o
+    shared-slice-read-o
+    add-j
+    loop-less
+    loop-again
     returns)

@@ -1,63 +1,19 @@
--- `table::rows_ok` meets its contract. The loop's invariant: the rows below i are in range. The measure is the rows that are left. Assumes nothing.
+use Rattle.table.proofs.Columns.{range-ok}
 use borrow.Author.Needs.{needs}
-use Prim.Native.Nat.{_-_, _≤_}
-use mathlib.Core.Path.{_≡_}
-use mathlib.Core.Bool.{true}
-use native.Mathlib.Omega.{arith}
-use Rattle.model.specs.Range.{rowsOk}
-use Rattle.table.proofs.Fours.{rows-more, rows-out, rows-all}
 use Rattle.table.proofs.rows_ok.Statement.{statement}
 use Rattle.table.proofs.rows_ok.Tie as tie
 
-abbrev Inv-loop : tie.InvT-loop
-Inv-loop rows c n i₀ i = (i ≤ c) × (rowsOk n c rows i ≡ true)
+plainly-ok-requires : tie.Need-plainly-ok-requires
+plainly-ok-requires c κs = search needs
 
-abbrev μ-loop : tie.MeasureT-loop
-μ-loop rows c n i₀ i = c - i
+returns : tie.Need-returns
+returns c = range-ok _ _ _ (c .before .plainly-ok .ensures (c .if1 .taken))
 
-fours-ok-requires : tie.Need-fours-ok-requires Inv-loop μ-loop
-fours-ok-requires c κs = search needs
+each-ok-requires : tie.Need-each-ok-requires
+each-ok-requires c κs = search needs
 
-loop-holds : tie.Need-loop-holds Inv-loop μ-loop
-loop-holds c = search needs
-
-row-at-requires : tie.Need-row-at-requires Inv-loop μ-loop
-row-at-requires c κs = search needs
-
-cast-row-ok : tie.Need-cast-row-ok Inv-loop μ-loop
-cast-row-ok c = search needs
-
-row-ok-requires : tie.Need-row-ok-requires Inv-loop μ-loop
-row-ok-requires c κs = search needs
-
-add-i : tie.Need-add-i Inv-loop μ-loop
-add-i c = search needs
-
-loop-less : tie.Need-loop-less Inv-loop μ-loop
-loop-less c = search needs
-
-loop-again : tie.Need-loop-again Inv-loop μ-loop
-loop-again c = (omega arith, search (rows-more))
-
-returns : tie.Need-returns Inv-loop μ-loop
-returns c = search (rows-out)
-
-returns-2 : tie.Need-returns-2 Inv-loop μ-loop
-returns-2 c = search (rows-all)
+returns-2 : tie.Need-returns-2
+returns-2 c = search needs
 
 pub rows-ok-spec : {M : Type 1} → statement M
-rows-ok-spec =
-    tie.close
-    (tie.spec
-    Inv-loop
-    μ-loop
-    fours-ok-requires
-    loop-holds
-    row-at-requires
-    cast-row-ok
-    row-ok-requires
-    add-i
-    loop-less
-    loop-again
-    returns
-    returns-2)
+rows-ok-spec = tie.close (tie.spec plainly-ok-requires returns each-ok-requires returns-2)

@@ -1,6 +1,5 @@
--- `table::scan` meets its contract: what the part below the position finds is the answer, else what the part above it finds. Assumes nothing.
-use borrow.Author.Needs.{needs}
 use Rattle.table.proofs.Lookup.{scan-low, scan-high, found-low}
+use borrow.Author.Needs.{needs}
 use Rattle.table.proofs.scan.Statement.{statement}
 use Rattle.table.proofs.scan.Tie as tie
 

@@ -1,14 +1,13 @@
--- `table::wanted` meets its contract: each answer is what the definition gives once the address is looked at. Assumes nothing.
 use Prim.Native.Nat.{ℕ}
 use mathlib.Core.Path.{_≡_}
 use mathlib.Core.Bool.{Bool, true, false, not, and-true, and-false}
 use lib.Dec.{eqb}
 use borrow.Author.Tests.{eq-eqb, ne-eqb}
-use borrow.Author.Needs.{needs}
 use Rattle.map.specs.declared.Address.{Address}
 use Rattle.model.specs.Lent.{emptyKind, writeKind, rowWith}
 use Rattle.model.specs.declared.Row.{Row}
 use Rattle.table.specs.Table.{wanted}
+use borrow.Author.Needs.{needs}
 use Rattle.table.proofs.wanted.Statement.{statement}
 use Rattle.table.proofs.wanted.Tie as tie
 
@@ -22,9 +21,6 @@ module _ (w : Bool) (a : Address) (kind address word link : ℕ) where
 wanted-other : (w : Bool) (a : Address) (r : Row) → (r .address .0 ≡ a .0 → ⊥) → false ≡ wanted w a r
 wanted-other true a r h = simp (ne-eqb (r .address .0) (a .0) h, and-false)
 wanted-other false a r h = simp (ne-eqb (r .address .0) (a .0) h, and-false)
-
-mul-at : tie.Need-mul-at
-mul-at c = search needs
 
 add-if1 : tie.Need-add-if1
 add-if1 c = search needs
@@ -54,7 +50,6 @@ pub wanted-spec : {M : Type 1} → statement M
 wanted-spec =
     tie.close
     (tie.spec
-    mul-at
     add-if1
     mul-if1
     shared-slice-read-if1

@@ -1,0 +1,53 @@
+use Prim.Native.Nat.{_-_, _≤_}
+use native.Mathlib.Nat.{not-suc-le-zero}
+use native.Mathlib.Omega.{arith}
+use Rattle.table.specs.Table.{UpTo}
+use Rattle.table.proofs.Columns.{upto-one}
+use borrow.Author.Needs.{needs}
+use Rattle.table.proofs.joined_wide.Statement.{statement}
+use Rattle.table.proofs.joined_wide.Tie as tie
+
+abbrev Inv-loop : tie.InvT-loop
+Inv-loop rows at o₀ j₀ o j = (j ≤ 256) × UpTo o rows at j
+
+abbrev μ-loop : tie.MeasureT-loop
+μ-loop rows at o₀ j₀ o j = 256 - j
+
+loop-holds : tie.Need-loop-holds Inv-loop μ-loop
+loop-holds c = (omega arith, λ k h. absurd (not-suc-le-zero h))
+
+add-o : tie.Need-add-o Inv-loop μ-loop
+add-o c = search needs
+
+mul-o : tie.Need-mul-o Inv-loop μ-loop
+mul-o c = search needs
+
+shared-slice-read-o : tie.Need-shared-slice-read-o Inv-loop μ-loop
+shared-slice-read-o c = search needs
+
+add-j : tie.Need-add-j Inv-loop μ-loop
+add-j c = search needs
+
+loop-less : tie.Need-loop-less Inv-loop μ-loop
+loop-less c = search needs
+
+loop-again : tie.Need-loop-again Inv-loop μ-loop
+loop-again c = (omega arith, search upto-one)
+
+returns : tie.Need-returns Inv-loop μ-loop
+returns c = λ k h. c .before .loop .inv .1 k (omega arith)
+
+pub joined-wide-spec : {M : Type 1} → statement M
+joined-wide-spec =
+    tie.close
+    (tie.spec
+    Inv-loop
+    μ-loop
+    loop-holds
+    add-o
+    mul-o
+    shared-slice-read-o
+    add-j
+    loop-less
+    loop-again
+    returns)
