@@ -16,9 +16,9 @@ use Rattle.model.proofs.Range.{head-oldest, head-count}
 use Rattle.model.proofs.Rings.{onward-below, part-within}
 use Rattle.model.specs.Cycle.{oldestEntry, placedAt, placed}
 use Rattle.model.specs.Lent.{Buffers, buffersIn, lent, entryWith, entryAt, putEntry, oldestOf, countOf, putHead, onward}
-use Rattle.model.specs.Range.{Good, headOk, bufferOk, entriesOk}
+use Rattle.model.specs.Range.{Good, headOk, entriesOk}
 use Rattle.model.specs.declared.Entry.{Entry}
-use Rattle.buffers.specs.Bank.{Room, Head, Buffer}
+use Rattle.buffers.specs.Bank.{Room, Head, Buffer, HeadsIn}
 use Rattle.buffers.specs.Part.{partOk}
 use Rattle.buffers.proofs.Parts.{four-part, put-part}
 use Rattle.buffers.proofs.Waiting.{part-entries}
@@ -40,16 +40,9 @@ module _ (s : Setup) (entries heads : List ℕ) (b : ℕ) where
         part-within = omega (arith, part-within b (banksOf s) (s .k) l);
       }
 
-  -- t is what the test of the head answered
-  module _ (t : Bool) (e : t ≡ headOk s heads b) where
-    pub tested-buffer : Room s (buffersIn entries heads) → b < banksOf s → t ≡ true → Buffer s b (buffersIn entries heads)
-    tested-buffer r l h = room-buffer r l (sym e ∙ h)
-
-    pub buffer-good : (u : Bool) → t ≡ true → u ≡ entriesOk s (buffersIn entries heads) b (countOf heads b) → u ≡ bufferOk s (buffersIn entries heads) b
-    buffer-good u h w = rw (sym e ∙ h) w
-
-    pub buffer-bad : t ≡ false → false ≡ bufferOk s (buffersIn entries heads) b
-    buffer-bad h = rw (sym e ∙ h)
+-- a bank's buffer, where every head is in range
+pub heads-buffer : (s : Setup) (entries heads : List ℕ) (b banks : ℕ) → HeadsIn s (buffersIn entries heads) → banks ≡ banksOf s → b < banks → Buffer s b (buffersIn entries heads)
+heads-buffer s entries heads b banks g e l = room-buffer s entries heads b (g .room) (omega arith) (g .heads-ok b (omega arith))
 
 module _ (s : Setup) (memory rows entries heads : List ℕ) (g : Good s (lent memory rows entries heads)) where
   pub good-room : Room s (buffersIn entries heads)

@@ -1,5 +1,5 @@
 -- The waiting entries: how the tests of a buffer and of all go on and end, and that a bank's part has what waits at the bank. Assumes nothing.
-use Prim.Native.Nat.{ℕ, zero, suc, _+_, _*_, _≤_, _<_}
+use Prim.Native.Nat.{ℕ, zero, suc, _+_, _*_, _/_, _≤_, _<_}
 use mathlib.Core.Bool.{Bool, true, false, not, _&&_, _||_}
 use mathlib.Core.Logic.{⊎-elim}
 use mathlib.Core.List.{List}
@@ -10,11 +10,19 @@ use borrow.Author.Tests.{le-leb, lt-leb, lt-ltb, le-ltb}
 use borrow.Rule.Slice.PartMut.{midOf}
 use Rattle.setup.specs.Setup.{wordsOf, banksOf}
 use Rattle.setup.specs.declared.Setup.{Setup}
-use Rattle.model.proofs.Rings.{onward-either, onward-none, onward-below}
+use Rattle.model.proofs.Rings.{onward-either, onward-none, onward-below, part-within}
+use Rattle.model.proofs.Range.{head-ok, head-oldest, head-count, buffer-ok, buffer-head, buffers-each}
+use Rattle.model.proofs.Range as range
+use Rattle.flat.specs.Flat.{pairsBelow, pairsTold, foursBelow}
+use Rattle.flat.specs.declared.Told.{Told}
+use Rattle.flat.proofs.Flat.{pairs-each, pairs-every, fours-each}
 use Rattle.model.specs.Lent.{Buffers, buffersIn, entryWith, entryAt, oldestOf, countOf, onward}
-use Rattle.model.specs.Range.{entryOk, entriesOk, headOk, bufferOk, buffersOk}
+use Rattle.model.specs.Range.{entryOk, waitingEntry, entriesOk, headOk, bufferOk, buffersOk}
 use Rattle.model.specs.declared.Entry.{Entry}
-use Rattle.places.proofs.Below.{below-more, below-out, below-all}
+use Rattle.flat.proofs.Below.{said-no, below-more, below-out, below-all}
+use lib.ListN.{length}
+use Rattle.setup.proofs.Ranges.{banks-least}
+use Rattle.buffers.specs.Bank.{Room, HeadsIn}
 use Rattle.buffers.specs.Part.{partOk}
 use Rattle.buffers.proofs.Parts.{four-part}
 
@@ -56,20 +64,78 @@ module _ (n c k oldest : ℕ) (part : List ℕ) where
   part-all = below-all (λ (j : ℕ). entryOk n c (entryAt part (onward k oldest j))) (partOk n c k oldest part) (λ j. refl)
 
 ------------------------------------------------------------------------
--- The buffers of the k banks, from the first on. t says whether bank b's is in range
+-- The buffers of the k banks, from the first on, where every head is in range. t says whether what waits at bank b is
 
-module _ (s : Setup) (q : Buffers) where
-  pub buffers-more : (b : ℕ) (t : Bool) → buffersOk s q b ≡ true → t ≡ bufferOk s q b → t ≡ true → buffersOk s q (b + 1) ≡ true
-  unfolding buffersOk
-  buffers-more b t h e x = below-more (bufferOk s q) (buffersOk s q) (λ j. refl) b h (cc)
+module _ (s : Setup) (q : Buffers) (g : HeadsIn s q) where
+  waited : (b : ℕ) (t : Bool) → b < banksOf s → t ≡ entriesOk s q b (countOf (q .heads) b) → bufferOk s q b ≡ t
+  waited b t l e = rw (g .heads-ok b l, e)
 
-  pub buffers-out : (b k : ℕ) (t : Bool) → k ≡ banksOf s → b < k → t ≡ bufferOk s q b → t ≡ false → false ≡ buffersOk s q (banksOf s)
+  pub buffers-more : (b k : ℕ) (t : Bool) → k ≡ banksOf s → buffersOk s q b ≡ true → b < k → t ≡ entriesOk s q b (countOf (q .heads) b) → t ≡ true → buffersOk s q (b + 1) ≡ true
   unfolding buffersOk
-  buffers-out b k t z h e x = below-out (bufferOk s q) (buffersOk s q) (λ j. refl) b (banksOf s) (omega arith) (cc)
+  buffers-more b k t z h l e x = below-more (bufferOk s q) (buffersOk s q) (λ j. refl) b h (waited b t (omega arith) e ∙ x)
 
-  pub buffers-all : (b k : ℕ) → k ≡ banksOf s → k ≤ b → b ≤ k → buffersOk s q b ≡ true → true ≡ buffersOk s q (banksOf s)
+  pub buffers-out : (b k : ℕ) (t : Bool) → k ≡ banksOf s → b < k → t ≡ entriesOk s q b (countOf (q .heads) b) → t ≡ false → false ≡ buffersOk s q (banksOf s)
   unfolding buffersOk
-  buffers-all b k e l h = below-all (bufferOk s q) (buffersOk s q) (λ j. refl) b (banksOf s) (omega arith) (omega arith)
+  buffers-out b k t z l e x = below-out (bufferOk s q) (buffersOk s q) (λ j. refl) b (banksOf s) (omega arith) (waited b t (omega arith) e ∙ x)
+
+pub buffers-all : (s : Setup) (q : Buffers) (b k : ℕ) → k ≡ banksOf s → k ≤ b → b ≤ k → buffersOk s q b ≡ true → true ≡ buffersOk s q (banksOf s)
+unfolding buffersOk
+buffers-all s q b k e l h = below-all (bufferOk s q) (buffersOk s q) (λ j. refl) b (banksOf s) (omega arith) (omega arith)
+
+------------------------------------------------------------------------
+-- What flat looks tell: of the heads, and of the whole entry room
+
+pub some-bank : (s : Setup) (banks : ℕ) → banks ≡ banksOf s → 0 < banks
+some-bank s banks e = rw e (banks-least s)
+
+module _ (s : Setup) (entries heads : List ℕ) (k banks : ℕ) (ek : k ≡ s .k) (eb : banks ≡ banksOf s) where
+  -- a head is in range where its pair is
+  heads-each : (m : ℕ) → m ≤ k + 1 → pairsBelow k m heads banks ≡ true → (b : ℕ) → b < banksOf s → headOk s heads b ≡ true
+  heads-each m n h b l = let p = pairs-each k m heads banks h b (omega arith) in head-ok s heads b (omega arith) (omega arith)
+
+  module _ (r : Told) (e : r ≡ pairsTold k (k + 1) heads banks) where
+    -- nothing waits
+    pub told-none : r .none ≡ true → true ≡ buffersOk s (buffersIn entries heads) (banksOf s)
+    told-none h =
+        let z : pairsBelow k 1 heads banks ≡ true = sym (ap (λ (x : Told). x .none) e) ∙ h in
+        sym (range.buffers-all s (buffersIn entries heads) (banksOf s) (λ b l.
+        let p = pairs-each k 1 heads banks z b (omega arith) in
+        buffer-ok s (buffersIn entries heads) b (heads-each 1 (omega arith) z b l) (λ i g. absurd (omega arith))))
+
+    -- every head is in range
+    pub told-below : r .below ≡ true → Room s (buffersIn entries heads) → HeadsIn s (buffersIn entries heads)
+    told-below h room = record { room = room; heads-ok = heads-each (k + 1) (omega arith) (sym (ap (λ (x : Told). x .below) e) ∙ h) }
+
+    -- one is not
+    pub told-out : r .below ≡ false → false ≡ buffersOk s (buffersIn entries heads) (banksOf s)
+    told-out h = out (buffersOk s (buffersIn entries heads) (banksOf s)) refl
+      where
+        out : (t : Bool) → buffersOk s (buffersIn entries heads) (banksOf s) ≡ t → false ≡ t
+        out false x = refl
+        out true x =
+            let y : pairsBelow k (k + 1) heads banks ≡ true =
+            pairs-every k (k + 1) heads banks (λ b l.
+            let o = buffer-head s (buffersIn entries heads) b (buffers-each s (buffersIn entries heads) (banksOf s) x b (omega arith)) in
+            let c = head-oldest s heads b o in
+            let d = head-count s heads b o in
+            (omega arith, omega arith)) in
+            let z : pairsBelow k (k + 1) heads banks ≡ false = sym (ap (λ (x : Told). x .below) e) ∙ h in
+            said-no (sym z ∙ y)
+
+-- every place of the entry room is in range
+pub all-plain : (s : Setup) (entries heads : List ℕ) (words : ℕ) (u : Bool) → HeadsIn s (buffersIn entries heads) → words ≡ wordsOf s
+    → u ≡ foursBelow 2 (s .c) words entries (length entries / 4) → u ≡ true → true ≡ buffersOk s (buffersIn entries heads) (banksOf s)
+all-plain s entries heads words u g ew eu hu =
+    let long : length entries ≡ 4 * (banksOf s * s .k) = g .room .entries-long in
+    sym (range.buffers-all s (buffersIn entries heads) (banksOf s) (λ b l.
+    buffer-ok s (buffersIn entries heads) b (g .heads-ok b l) (λ i h.
+    let o = head-oldest s heads b (g .heads-ok b l) in
+    let c = head-count s heads b (g .heads-ok b l) in
+    let j : ℕ = onward (s .k) (oldestOf heads b) i in
+    let y : j < s .k = onward-below (s .k) (oldestOf heads b) i o (omega arith) in
+    let w = part-within b (banksOf s) (s .k) l in
+    let p = fours-each 2 (s .c) words entries (length entries / 4) (sym eu ∙ hu) (b * s .k + j) (omega arith) in
+    range.entry-ok (wordsOf s) (s .c) (waitingEntry s (buffersIn entries heads) b i) (omega arith) (omega arith) (λ r. omega arith))))
 
 ------------------------------------------------------------------------
 -- In the bank's part, which has m numbers
@@ -111,13 +177,3 @@ module _ (n c : ℕ) (e : Entry) where
 
       pub entry-write : (t : Bool) → c ≤ e .row → t ≡ not (eqb (e .kind) 0) → t ≡ entryOk n c e
       entry-write t r q = rw (le-leb (e .kind) 1 h, lt-ltb (e .cell .0) n l, le-ltb (e .row) c r) (q ∙ or-false (not (eqb (e .kind) 0)))
-
-------------------------------------------------------------------------
--- A head. o and m are its oldest place and count, k is K
-
-module _ (s : Setup) (heads : List ℕ) (b o k : ℕ) (eo : o ≡ oldestOf heads b) (ek : k ≡ s .k) where
-  pub head-in : (m : ℕ) (t : Bool) → m ≡ countOf heads b → o < k → t ≡ leb m k → t ≡ headOk s heads b
-  head-in m t em l et = let z : ltb (oldestOf heads b) (s .k) ≡ true = lt-ltb (oldestOf heads b) (s .k) (omega arith) in cc
-
-  pub head-out : k ≤ o → false ≡ headOk s heads b
-  head-out l = let z : ltb (oldestOf heads b) (s .k) ≡ false = le-ltb (oldestOf heads b) (s .k) (omega arith) in rw z

@@ -1,11 +1,13 @@
 -- What the calls on the buffers ask of the lent slices.
 use Prim.Native.Nat.{ℕ, _+_, _*_, _≤_, _<_}
 use mathlib.Core.List.{List}
+use mathlib.Core.Bool.{true}
 use mathlib.Core.Path.{_≡_}
 use lib.ListN.{length}
 use Rattle.setup.specs.declared.Setup.{Setup}
 use Rattle.setup.specs.Setup.{Sizes, banksOf}
 use Rattle.model.specs.Lent.{Buffers, oldestOf, countOf}
+use Rattle.model.specs.Range.{headOk}
 
 -- room for B·K entries, and two numbers a bank
 pub record Room (s : Setup) (q : Buffers) : Type 0 where
@@ -24,3 +26,8 @@ pub record Head (s : Setup) (b : ℕ) (heads : List ℕ) : Type 0 where
 pub record Buffer (s : Setup) (b : ℕ) (q : Buffers) : Type 0 where
   pub head : Head s b (q .heads)
   pub part-within : 4 * (b * s .k) + 4 * s .k ≤ length (q .entries)
+
+-- room as above, and every bank's head in range
+pub record HeadsIn (s : Setup) (q : Buffers) : Type 0 where
+  pub room : Room s q
+  pub heads-ok : (b : ℕ) → b < banksOf s → headOk s (q .heads) b ≡ true

@@ -1,15 +1,16 @@
 // The request buffers: each bank's buffer is handled through its own part of the lent entry room.
 ghost use mathlib.Core.Path.{_≡_};
-ghost use Prim.Native.Nat.{_+_, _*_, _≤_, _<_};
-ghost use lib.Dec.{eqb};
+ghost use Prim.Native.Nat.{_+_, _-_, _*_, _/_, _≤_, _<_};
+ghost use mathlib.Core.Bool.{true, _&&_};
+ghost use lib.Dec.{eqb, ltb};
 ghost use lib.ListN.{length};
 ghost use Rattle.setup.specs.Setup.{wordsOf, banksOf};
 ghost use Rattle.map.specs.Map.{bankOf};
 ghost use Rattle.model.specs.Lent.{buffersIn, entryAt, putEntry, oldestOf, countOf, putHead, onward};
 ghost use Rattle.model.specs.Cycle.{oldestEntry, popped, placedAt, placed};
-ghost use Rattle.model.specs.Range.{entryOk, entriesOk, headOk, bufferOk, buffersOk};
+ghost use Rattle.model.specs.Range.{entryOk, entriesOk, buffersOk};
 ghost use Rattle.buffers.specs.Part.{partOk};
-ghost use Rattle.buffers.specs.Bank.{Room, Head, Buffer};
+ghost use Rattle.buffers.specs.Bank.{Room, Head, Buffer, HeadsIn};
 use map::Cell;
 use model::Entry;
 use places::next;
@@ -178,18 +179,6 @@ pub fn place(s: Setup, e: Entry, entries: &mut [u32], heads: &mut [u32]) -> bool
 
 // The range check of answer 3.
 
-// Oldest place below K, count at most K.
-fn head_ok(s: Setup, b: usize, heads: &[u32]) -> bool
-    requires { ⌜ 2 * b + 2 ≤ length (now heads) ⌝ }
-    ensures { λ r. ⌜ r ≡ headOk s (now (heads .entry)) b ⌝ }
-{
-    let k = s.k as u32;
-    if oldest_at(heads, b) < k {
-        return count_at(heads, b) <= k;
-    }
-    false
-}
-
 // The entries that wait at bank b, whose head is in range; of n words.
 fn waiting_ok(s: Setup, n: u32, b: usize, entries: &[u32], heads: &[u32]) -> bool
     requires { ⌜ Buffer s b (buffersIn (now entries) (now heads)) × (n ≡ wordsOf s) ⌝ }
@@ -203,30 +192,57 @@ fn waiting_ok(s: Setup, n: u32, b: usize, entries: &[u32], heads: &[u32]) -> boo
     part_ok(&entries[from..to], k, oldest, count, n, s.c as u32)
 }
 
-// The head first: one out of range would lead to a read outside the part.
-fn buffer_ok(s: Setup, n: u32, b: usize, entries: &[u32], heads: &[u32]) -> bool
-    requires { ⌜ Room s (buffersIn (now entries) (now heads)) × (n ≡ wordsOf s) × (b < banksOf s) ⌝ }
-    ensures { λ r. ⌜ r ≡ bufferOk s (buffersIn (now (entries .entry)) (now (heads .entry))) b ⌝ }
-{
-    if head_ok(s, b, heads) {
-        return waiting_ok(s, n, b, entries, heads);
-    }
-    false
-}
-
-// Each of the B buffers, of n words.
-pub fn buffers_ok(s: Setup, n: u32, entries: &[u32], heads: &[u32]) -> bool
-    requires { ⌜ Room s (buffersIn (now entries) (now heads)) × (n ≡ wordsOf s) ⌝ }
+// Of each of the B buffers, whose heads are in range, the entries that wait; of n words.
+fn each_ok(s: Setup, n: u32, banks: usize, entries: &[u32], heads: &[u32]) -> bool
+    requires { ⌜ HeadsIn s (buffersIn (now entries) (now heads)) × (n ≡ wordsOf s) × (banks ≡ banksOf s) ⌝ }
     ensures { λ r. ⌜ r ≡ buffersOk s (buffersIn (now (entries .entry)) (now (heads .entry))) (banksOf s) ⌝ }
 {
-    let banks = s.banks() as usize;
     let mut b: usize = 0;
     while b < banks {
-        if buffer_ok(s, n, b, entries, heads) {
+        if waiting_ok(s, n, b, entries, heads) {
             b += 1;
         } else {
             return false;
         }
     }
     true
+}
+
+// Whether more than half the places of the first and of the last bank wait: in most runs most places then do.
+fn crowded(s: Setup, banks: usize, heads: &[u32]) -> bool
+    requires { ⌜ (length (now heads) ≡ 2 * banks) × (0 < banks) ⌝ }
+    ensures { λ r. ⌜ r ≡ ltb (s .k / 2) (countOf (now (heads .entry)) 0) && ltb (s .k / 2) (countOf (now (heads .entry)) (banks - 1)) ⌝ }
+{
+    let half = (s.k as u32) / 2;
+    (half < count_at(heads, 0)) & (half < count_at(heads, banks - 1))
+}
+
+// The same: where many wait, yes at once if every place of the entry room is in range as it stands, whether it waits or not.
+fn all_ok(s: Setup, n: u32, banks: usize, entries: &[u32], heads: &[u32]) -> bool
+    requires { ⌜ HeadsIn s (buffersIn (now entries) (now heads)) × (n ≡ wordsOf s) × (banks ≡ banksOf s) ⌝ }
+    ensures { λ r. ⌜ r ≡ buffersOk s (buffersIn (now (entries .entry)) (now (heads .entry))) (banksOf s) ⌝ }
+{
+    if crowded(s, banks, heads) {
+        if flat::fours_below(entries, entries.len() / 4, Entry::WRITE + 1, s.c as u32, n) {
+            return true;
+        }
+    }
+    each_ok(s, n, banks, entries, heads)
+}
+
+// Each of the B buffers, of n words: the heads all at once, oldest places below K and counts at most K, then what waits, if anything does.
+pub fn buffers_ok(s: Setup, n: u32, entries: &[u32], heads: &[u32]) -> bool
+    requires { ⌜ Room s (buffersIn (now entries) (now heads)) × (n ≡ wordsOf s) ⌝ }
+    ensures { λ r. ⌜ r ≡ buffersOk s (buffersIn (now (entries .entry)) (now (heads .entry))) (banksOf s) ⌝ }
+{
+    let banks = s.banks() as usize;
+    let k = s.k as u32;
+    let told = flat::pairs(heads, banks, k, k + 1);
+    if told.none {
+        return true;
+    }
+    if told.below {
+        return all_ok(s, n, banks, entries, heads);
+    }
+    false
 }

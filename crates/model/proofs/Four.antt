@@ -1,12 +1,14 @@
 -- Laws on four numbers at a place of a lent room, for rows and for entries. Assumes nothing.
-use Prim.Native.Nat.{ℕ, _+_, _*_, _≤_, _<_}
+use Prim.Native.Nat.{ℕ, _+_, _-_, _*_, _≤_, _<_}
 use native.Mathlib.Omega.{arith}
-use mathlib.Core.Path.{_≡_, _∙_}
+use mathlib.Core.Path.{_≡_, ap, sym, _∙_}
+use mathlib.Core.Logic.{⊎-elim}
 use mathlib.Core.List.{List}
 use lib.ListN.{length, getD, set, length-set}
-use lib.Seq.{getD-set-same, getD-set-other}
+use lib.Seq.{getD-set-same, getD-set-other, ext-getD}
 use Rattle.model.specs.declared.Row.{Row}
 use Rattle.model.specs.declared.Entry.{Entry}
+use Rattle.model.proofs.Tests.{below-or-not}
 use Rattle.model.specs.Lent.{putFour, rowWith, rowAt, putRow, entryWith, entryAt, putEntry}
 
 ------------------------------------------------------------------------
@@ -139,6 +141,27 @@ module _ (c : ℕ) (l : List ℕ) (i : ℕ) (r : Row) where
         put-aside (2 * c + j) (λ e. omega arith) (λ e. omega arith) (λ e. n (omega arith)) (λ e. omega arith),
         put-aside (3 * c + j) (λ e. omega arith) (λ e. omega arith) (λ e. omega arith) (λ e. n (omega arith)),
       )
+
+-- two rooms of c rows are the same where their rows are: a number of a room is in one of the four columns
+pub rows-same : (c : ℕ) (k l : List ℕ) → length k ≡ 4 * c → length l ≡ 4 * c → ((i : ℕ) → i < c → rowAt c k i ≡ rowAt c l i) → k ≡ l
+rows-same c k l hk hl same = ext-getD 0 k l (hk ∙ sym hl) at-place
+  where
+    -- place i of the column that begins at a
+    column : (a i q : ℕ) → q ≡ a + i → getD k (a + i) 0 ≡ getD l (a + i) 0 → getD k q 0 ≡ getD l q 0
+    column a i q e h = rw e h
+
+    at-place : (q : ℕ) → q < length k → getD k q 0 ≡ getD l q 0
+    at-place q b =
+        ⊎-elim
+        (λ h. ap (λ (r : Row). r .kind) (same q h))
+        (λ h. ⊎-elim
+        (λ g. column c (q - c) q (omega arith) (ap (λ (r : Row). r .address .0) (same (q - c) (omega arith))))
+        (λ g. ⊎-elim
+        (λ f. column (2 * c) (q - 2 * c) q (omega arith) (ap (λ (r : Row). r .link) (same (q - 2 * c) (omega arith))))
+        (λ f. column (3 * c) (q - 3 * c) q (omega arith) (ap (λ (r : Row). r .word) (same (q - 3 * c) (omega arith))))
+        (below-or-not q (3 * c)))
+        (below-or-not q (2 * c)))
+        (below-or-not q c)
 
 ------------------------------------------------------------------------
 -- Entries

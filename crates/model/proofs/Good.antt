@@ -1,18 +1,18 @@
 -- `Good` in its parts, and the bounds that it gives. Assumes nothing.
 use Prim.Native.Nat.{ℕ, _+_, _*_, _≤_, _<_}
 use native.Mathlib.Omega.{arith}
-use mathlib.Core.Path.{_≡_, sym, subst}
+use mathlib.Core.Path.{_≡_, sym, ap, subst, _∙_}
 use mathlib.Core.Bool.{true}
 use mathlib.Core.List.{List}
 use lib.ListN.{length}
 use Rattle.setup.specs.Setup.{Ranges, wordsOf, banksOf}
 use Rattle.setup.specs.declared.Setup.{Setup}
 use Rattle.model.specs.declared.Entry.{Entry}
-use Rattle.model.specs.Lent.{Lent, Buffers, lent, buffersIn, readEntry, emptyKind, waitingKind, rowAt, oldestOf, countOf}
+use Rattle.model.specs.Lent.{Lent, Buffers, lent, buffersIn, readEntry, writeEntry, emptyKind, waitingKind, rowAt, oldestOf, countOf}
 use Rattle.model.specs.Range.{entryOk, Good}
 use Rattle.model.specs.Cycle.{oldestEntry}
 use Rattle.model.proofs.Rings.{part-within}
-use Rattle.model.proofs.Range.{row-address, row-link, entry-cell, entry-row}
+use Rattle.model.proofs.Range.{row-address, row-link, entry-kind, entry-cell, entry-row}
 use Rattle.model.proofs.Rows.{GoodRows}
 use Rattle.model.proofs.Buffers.{GoodBuffers, oldest-below, count-most, oldest-ok}
 
@@ -88,6 +88,9 @@ module _ (s : Setup) (memory rows entries heads : List ℕ) (g : Good s (lent me
       pub oldest-at-cell : {e : Entry} → e ≡ oldestEntry s b (buffersIn entries heads) → e .cell .0 < length memory
       oldest-at-cell p = subst (λ (x : Entry). x .cell .0 < length memory) (sym p) good-oldest-cell
 
-      pub good-oldest-row : oldestEntry s b (buffersIn entries heads) .kind ≡ readEntry
-          → oldestEntry s b (buffersIn entries heads) .row < s .c
-      good-oldest-row = entry-row (wordsOf s) (s .c) (oldestEntry s b (buffersIn entries heads)) good-oldest-ok
+      pub oldest-at-row : {e : Entry} → e ≡ oldestEntry s b (buffersIn entries heads) → (e .kind ≡ writeEntry → ⊥) → e .row < s .c
+      oldest-at-row {e} p n =
+          let ok : entryOk (wordsOf s) (s .c) e ≡ true = ap (entryOk (wordsOf s) (s .c)) p ∙ good-oldest-ok in
+          let k : e .kind ≤ writeEntry = entry-kind (wordsOf s) (s .c) e ok in
+          let r : e .kind ≡ readEntry = omega arith in
+          entry-row (wordsOf s) (s .c) e ok r

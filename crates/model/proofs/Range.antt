@@ -12,7 +12,8 @@ use Rattle.model.specs.declared.Row.{Row}
 use Rattle.model.specs.declared.Entry.{Entry}
 use Rattle.model.specs.Lent.{Lent, Buffers, emptyKind, waitingKind, rowAt, readEntry, writeEntry, oldestOf, countOf}
 use Rattle.model.specs.Range.{lengthsOk, rowOk, rowsOk, entryOk, waitingEntry, entriesOk, headOk, bufferOk, buffersOk, numbersOk, Good, Ready}
-use Rattle.model.proofs.Tests.{and-true, or-true, or-r, not-or-true, not-or-r, each-below, all-below}
+use Rattle.model.proofs.Tests.{and-true, or-true, or-r, not-or-true, not-or-r}
+use Rattle.flat.proofs.Below.{each-below, all-below}
 
 ------------------------------------------------------------------------
 -- A row
@@ -70,31 +71,31 @@ module _ (s : Setup) (heads : List ℕ) (b : ℕ) where
 module _ (n c : ℕ) (rows : List ℕ) (k : ℕ) where
   pub rows-each : rowsOk n c rows k ≡ true → (i : ℕ) → i < k → rowOk n c (rowAt c rows i) ≡ true
   unfolding rowsOk
-  rows-each = each-below (λ (i : ℕ). rowOk n c (rowAt c rows i)) (rowsOk n c rows) refl (λ i. refl) k
+  rows-each = each-below (λ (i : ℕ). rowOk n c (rowAt c rows i)) (rowsOk n c rows) (λ i. refl) k
 
   pub rows-all : ((i : ℕ) → i < k → rowOk n c (rowAt c rows i) ≡ true) → rowsOk n c rows k ≡ true
   unfolding rowsOk
-  rows-all = all-below (λ (i : ℕ). rowOk n c (rowAt c rows i)) (rowsOk n c rows) refl (λ i. refl) k
+  rows-all = all-below (λ (i : ℕ). rowOk n c (rowAt c rows i)) (rowsOk n c rows) (λ i. refl) refl k
 
 module _ (s : Setup) (q : Buffers) (b k : ℕ) where
   pub entries-each : entriesOk s q b k ≡ true → (i : ℕ) → i < k → entryOk (wordsOf s) (s .c) (waitingEntry s q b i) ≡ true
   unfolding entriesOk
   entries-each =
-      each-below (λ (i : ℕ). entryOk (wordsOf s) (s .c) (waitingEntry s q b i)) (entriesOk s q b) refl (λ i. refl) k
+      each-below (λ (i : ℕ). entryOk (wordsOf s) (s .c) (waitingEntry s q b i)) (entriesOk s q b) (λ i. refl) k
 
   pub entries-all : ((i : ℕ) → i < k → entryOk (wordsOf s) (s .c) (waitingEntry s q b i) ≡ true) → entriesOk s q b k ≡ true
   unfolding entriesOk
   entries-all =
-      all-below (λ (i : ℕ). entryOk (wordsOf s) (s .c) (waitingEntry s q b i)) (entriesOk s q b) refl (λ i. refl) k
+      all-below (λ (i : ℕ). entryOk (wordsOf s) (s .c) (waitingEntry s q b i)) (entriesOk s q b) (λ i. refl) refl k
 
 module _ (s : Setup) (q : Buffers) (k : ℕ) where
   pub buffers-each : buffersOk s q k ≡ true → (b : ℕ) → b < k → bufferOk s q b ≡ true
   unfolding buffersOk
-  buffers-each = each-below (bufferOk s q) (buffersOk s q) refl (λ b. refl) k
+  buffers-each = each-below (bufferOk s q) (buffersOk s q) (λ b. refl) k
 
   pub buffers-all : ((b : ℕ) → b < k → bufferOk s q b ≡ true) → buffersOk s q k ≡ true
   unfolding buffersOk
-  buffers-all = all-below (bufferOk s q) (buffersOk s q) refl (λ b. refl) k
+  buffers-all = all-below (bufferOk s q) (buffersOk s q) (λ b. refl) refl k
 
 -- a buffer is in range where its head and each of its waiting entries is
 module _ (s : Setup) (q : Buffers) (b : ℕ) where

@@ -51,18 +51,18 @@ abbrev pub filled : ℕ → ℕ → ℕ → Row → Row
 filled p w i r = pick (lacks p i r) (withWord r w) r
 
 module _ (c p w i : ℕ) (rows : List ℕ) where
-  length-filled-row : length (filledRow c p w i rows) ≡ length rows
+  pub length-filled-row : length (filledRow c p w i rows) ≡ length rows
   length-filled-row =
       pick-good (λ (l : List ℕ). length l ≡ length rows) (lacks p i (rowAt c rows i))
       (length-put-row c rows i (withWord (rowAt c rows i) w))
       refl
 
-  row-filled-same : i < c → 4 * c ≤ length rows → rowAt c (filledRow c p w i rows) i ≡ filled p w i (rowAt c rows i)
+  pub row-filled-same : i < c → 4 * c ≤ length rows → rowAt c (filledRow c p w i rows) i ≡ filled p w i (rowAt c rows i)
   row-filled-same b h =
       pick-map (λ (l : List ℕ). rowAt c l i) (lacks p i (rowAt c rows i)) (putRow c rows i (withWord (rowAt c rows i) w)) rows
       ∙ ap (λ (r : Row). pick (lacks p i (rowAt c rows i)) r (rowAt c rows i)) (row-put-same c rows i (withWord (rowAt c rows i) w) b h)
 
-  row-filled-other : (j : ℕ) → i < c → j < c → (j ≡ i → ⊥) → rowAt c (filledRow c p w i rows) j ≡ rowAt c rows j
+  pub row-filled-other : (j : ℕ) → i < c → j < c → (j ≡ i → ⊥) → rowAt c (filledRow c p w i rows) j ≡ rowAt c rows j
   row-filled-other j b l n =
       pick-good (λ (l : List ℕ). rowAt c l j ≡ rowAt c rows j) (lacks p i (rowAt c rows i))
       (row-put-other c rows i (withWord (rowAt c rows i) w) j b l n)

@@ -68,18 +68,3 @@ same-or-not a b = go (eqb a b) refl
     go : (t : Bool) → eqb a b ≡ t → (a ≡ b) ⊎ (a ≡ b → ⊥)
     go true e = inl (eqb-true a b e)
     go false e = inr (eqb-false a b e)
-
-------------------------------------------------------------------------
--- The test g of the numbers below a bound, by the test f of each
-
-module _ (f g : ℕ → Bool) (none : g 0 ≡ true) (more : (i : ℕ) → g (suc i) ≡ g i && f i) where
-  pub each-below : (n : ℕ) → g n ≡ true → (i : ℕ) → i < n → f i ≡ true
-  each-below zero h i l = absurd (not-suc-le-zero l)
-  each-below (suc n) h i l =
-      let p : g n && f n ≡ true = sym (more n) ∙ h in
-      below-more (λ (j : ℕ). f j ≡ true) n (each-below n (and-l (g n) (f n) p)) (and-r (g n) (f n) p) i (omega arith)
-
-  pub all-below : (n : ℕ) → ((i : ℕ) → i < n → f i ≡ true) → g n ≡ true
-  all-below zero h = none
-  all-below (suc n) h =
-      more n ∙ and-true (g n) (f n) (all-below n (λ i l. h i (omega arith))) (h n (omega arith))

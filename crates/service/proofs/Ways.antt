@@ -11,7 +11,7 @@ use Rattle.model.specs.Lent.{Lent, lent, buffersIn, writeEntry, countOf}
 use Rattle.model.specs.Cycle.{filledBelow, carried, oldestEntry, popped, servedBank, servedIf, servedBelow, served}
 use Rattle.model.specs.Range.{Good}
 use Rattle.model.proofs.Service.{carried-write, carried-read, served-none, served-some, served-if-turn, served-if-not}
-use Rattle.model.proofs.Good.{oldest-at-cell}
+use Rattle.model.proofs.Good.{oldest-at-cell, oldest-at-row}
 
 pub some-wait : (n m : ℕ) → n ≡ m → (n ≡ 0 → ⊥) → 0 < m
 some-wait n m e h = omega arith
@@ -22,6 +22,9 @@ some-wait n m e h = omega arith
 module _ (s : Setup) (e : Entry) (memory rows : List ℕ) where
   pub carry-write : e .kind ≡ writeEntry → (set memory (e .cell .0) (e .word), rows) ≡ carried s e (memory, rows)
   carry-write h = sym (carried-write s e memory rows h)
+
+  pub carry-named : (c : ℕ) → ((e .kind ≡ writeEntry → ⊥) → e .row < c) → (e .kind ≡ writeEntry → ⊥) → e .row < c
+  carry-named c named h = named h
 
   pub carry-read : {rows′ : List ℕ} → (e .kind ≡ writeEntry → ⊥)
       → rows′ ≡ filledBelow (s .c) (e .row) (getD memory (e .cell .0) 0) (s .c) rows → (memory, rows′) ≡ carried s e (memory, rows)
@@ -34,6 +37,10 @@ module _ (s : Setup) (b : ℕ) (memory rows entries heads : List ℕ) (n : ℕ) 
   pub carry-cell : {e : Entry} → Good s (lent memory rows entries heads) → b < banksOf s → (n ≡ 0 → ⊥) → e ≡ oldestEntry s b (buffersIn entries heads)
       → e .cell .0 < length memory
   carry-cell g l h p = oldest-at-cell s memory rows entries heads g b l (λ z. h (en ∙ z)) p
+
+  pub carry-row : {e : Entry} → Good s (lent memory rows entries heads) → b < banksOf s → (n ≡ 0 → ⊥) → e ≡ oldestEntry s b (buffersIn entries heads)
+      → (e .kind ≡ writeEntry → ⊥) → e .row < s .c
+  carry-row g l h p = oldest-at-row s memory rows entries heads g b l (λ z. h (en ∙ z)) p
 
   pub serve-some : {e : Entry} {memory′ rows′ heads′ : List ℕ} → (n ≡ 0 → ⊥) → e ≡ oldestEntry s b (buffersIn entries heads) → heads′ ≡ popped s b heads
       → (memory′, rows′) ≡ carried s e (memory, rows)

@@ -3,7 +3,7 @@ ghost use mathlib.Core.Path.{_≡_};
 ghost use Prim.Native.Nat.{_*_, _≤_, _<_};
 ghost use lib.ListN.{length};
 ghost use Rattle.setup.specs.Setup.{banksOf};
-ghost use Rattle.model.specs.Lent.{lent};
+ghost use Rattle.model.specs.Lent.{lent, writeEntry};
 ghost use Rattle.model.specs.Cycle.{carried, servedBank, servedIf, served};
 ghost use Rattle.model.specs.Range.{Good};
 use model::Entry;
@@ -11,7 +11,7 @@ use setup::Setup;
 
 // Carries an entry out: a write stores its word at its cell; a read's word goes to its row and to every row waiting on that row.
 fn carry(s: Setup, e: Entry, memory: &mut [u32], rows: &mut [u32])
-    requires { ⌜ (length (now rows) ≡ 4 * s .c) × (s .c ≤ 4096) × (e .cell .0 < length (now memory)) ⌝ }
+    requires { ⌜ (length (now rows) ≡ 4 * s .c) × (s .c ≤ 4096) × (e .cell .0 < length (now memory)) × ((e .kind ≡ writeEntry → ⊥) → e .row < s .c) ⌝ }
     ensures { λ _. ⌜ (now (memory .exit), now (rows .exit)) ≡ carried s e (now (memory .entry), now (rows .entry)) ⌝ }
 {
     let at = e.cell.0 as usize;

@@ -1,76 +1,57 @@
--- Parts of a column: numbers put together, numbers that none of them is, and what follows for rows. Assumes nothing.
+-- Parts of a column, and what a look at one tells of its rows: words that service brings, and the range check. Assumes nothing.
 use Prim.Native.Nat.{ℕ, zero, suc, _+_, _-_, _*_, _≤_, _<_}
-use native.Mathlib.Nat.{le-trans, not-suc-le-zero, eq-or-lt-of-le, eq-zero-or-pos}
+use native.Mathlib.Nat.{not-suc-le-zero}
 use native.Mathlib.Numerals.{add-one}
 use native.Mathlib.Omega.{arith}
 use mathlib.Core.Path.{_≡_, refl, sym, ap, subst, _∙_}
 use mathlib.Core.Bool.{Bool, true, false, not, _&&_, _||_}
 use mathlib.Core.Logic.{⊎-elim}
 use mathlib.Core.List.{List}
-use lib.Bits.{bitOr, or-add-and, and-le-l, and-le-r}
 use lib.Dec.{leb, ltb, eqb}
 use lib.ListN.{getD, length}
-use borrow.Author.Tests.{le-leb, lt-ltb, eq-eqb, ne-eqb, eqb-false}
-use Rattle.setup.specs.Choice.{pick}
-use Rattle.map.specs.declared.Address.{Address}
+use lib.Seq.{getD-take, getD-drop}
+use borrow.Author.Tests.{le-leb, lt-ltb, ne-eqb}
+use borrow.Rule.Slice.PartMut.{midOf, mid-len}
+use Rattle.flat.specs.Flat.{among, allBelow}
+use Rattle.flat.proofs.Flat.{among-no, below-at}
+use Rattle.flat.proofs.Below.{below-more, below-out, below-all}
 use Rattle.model.specs.Lent.{rowAt, emptyKind, waitingKind}
 use Rattle.model.specs.Range.{rowOk, rowsOk}
-use Rattle.model.specs.Cycle.{lacks, filledRow, filledBelow}
+use Rattle.model.specs.Cycle.{lacks, withWord, filledRow, filledBelow}
 use Rattle.model.specs.declared.Row.{Row}
 use Rattle.model.proofs.Range.{rows-all}
-use Rattle.places.proofs.Below.{below-more, below-out, below-all}
-use Rattle.table.specs.Table.{UpTo, Free, Calm, filledFrom, InRange, wanted}
-
--- a test that said no
-pub said-no : {A : Type 0} → false ≡ true → A
-said-no e = let z : _≡_ {A = ℕ} 0 1 = ap (λ (b : Bool). pick b 1 0) e in absurd (omega arith)
+use Rattle.model.proofs.Tests.{pick-either, same-or-not, below-or-not}
+use Rattle.model.proofs.Rows.{filled, length-filled-row, row-filled-same, row-filled-other, length-filled, row-filled-above, row-filled-below}
+use Rattle.model.proofs.Four.{rows-same}
+use Rattle.table.specs.Table.{Has, Calm, filledFrom, InRange}
 
 ------------------------------------------------------------------------
--- Numbers put together
+-- A part of a column: the numbers from place a up to place e
 
-le-or-l : (a b : ℕ) → a ≤ bitOr a b
-le-or-l a b = let e = or-add-and a b in let l = and-le-r a b in omega arith
+module _ (a e : ℕ) (l : List ℕ) (h : e ≤ length l) where
+  -- the number at a place is the part's
+  part-at : (i : ℕ) → a ≤ i → i < e → getD (midOf a (e - a) l) (i - a) 0 ≡ getD l i 0
+  part-at i b g =
+      let k : i - a < e - a = omega arith in
+      let z : a + (i - a) ≡ i = omega arith in
+      simp (getD-take, getD-drop, z)
 
-le-or-r : (a b : ℕ) → b ≤ bitOr a b
-le-or-r a b = let e = or-add-and a b in let l = and-le-l a b in omega arith
+  -- x is none of the part's numbers
+  pub part-free : (x i : ℕ) → among x (midOf a (e - a) l) ≡ false → a ≤ i → i < e → getD l i 0 ≡ x → ⊥
+  part-free x i f b g q =
+      let n : length (midOf a (e - a) l) ≡ e - a = mid-len a e l h in
+      among-no x (midOf a (e - a) l) f (i - a) (omega arith) (part-at i b g ∙ q)
 
-module _ (r : ℕ) (l : List ℕ) (at n : ℕ) where
-  -- with one number more
-  pub upto-one : UpTo r l at n → UpTo (bitOr r (getD l (at + n) 0)) l at (n + 1)
-  upto-one u k h =
-      ⊎-elim
-      (λ (q : k ≡ n). subst (λ (z : ℕ). getD l (at + z) 0 ≤ bitOr r (getD l (at + n) 0)) (sym q) (le-or-r r (getD l (at + n) 0)))
-      (λ (q : k < n). le-trans (u k q) (le-or-l r (getD l (at + n) 0)))
-      (eq-or-lt-of-le {n = k} {m = n} (omega arith))
-
-  -- with m numbers more
-  pub upto-more : (s m : ℕ) → UpTo r l at n → UpTo s l (at + n) m → UpTo (bitOr r s) l at (n + m)
-  upto-more s m u v k h =
-      ⊎-elim
-      (λ (q : suc k - n ≡ 0). le-trans (u k (omega arith)) (le-or-l r s))
-      (λ (q : 0 < suc k - n).
-        let e : at + n + (k - n) ≡ at + k = omega arith in
-        le-trans (subst (λ (z : ℕ). getD l z 0 ≤ s) e (v (k - n) (omega arith))) (le-or-r r s))
-      (eq-zero-or-pos (suc k - n))
+  -- all of them are below a bound
+  pub part-below : (bound i : ℕ) → allBelow bound (midOf a (e - a) l) ≡ true → a ≤ i → i < e → getD l i 0 < bound
+  part-below bound i f b g =
+      let n : length (midOf a (e - a) l) ≡ e - a = mid-len a e l h in
+      let y = below-at bound (midOf a (e - a) l) f (i - a) (omega arith) in
+      let z = part-at i b g in
+      omega arith
 
 ------------------------------------------------------------------------
--- A number that none of them is
-
-or-no : (a b : Bool) → a || b ≡ false → (a ≡ false) × (b ≡ false)
-or-no true b h = said-no (sym h)
-or-no false b h = (refl, h)
-
-pub free-one : (hit : Bool) (x : ℕ) (l : List ℕ) (at n : ℕ) → (hit ≡ false → Free x l at n)
-    → hit || eqb (getD l (at + n) 0) x ≡ false → Free x l at (n + 1)
-free-one hit x l at n f h k b e =
-    let both = or-no hit (eqb (getD l (at + n) 0) x) h in
-    ⊎-elim
-    (λ (q : k ≡ n). eqb-false (getD l (at + n) 0) x (both .1) (subst (λ (z : ℕ). getD l (at + z) 0 ≡ x) q e))
-    (λ (q : k < n). f (both .0) k q e)
-    (eq-or-lt-of-le {n = k} {m = n} (omega arith))
-
-------------------------------------------------------------------------
--- Rows of which none lacks a word stay as they are
+-- Words that service brings
 
 module _ (c p w i : ℕ) (l : List ℕ) where
   pub filled-calm : (n : ℕ) → Calm c p l i n → l ≡ filledFrom c p w i n l
@@ -90,53 +71,111 @@ module _ (c p w i : ℕ) (l : List ℕ) where
   unfolding filledFrom
   filled-next n k m hk hm = rw (add-one, ← hk) hm
 
-  pub filled-done : (n j : ℕ) (m : List ℕ) → j ≤ n → n ≤ j → m ≡ filledFrom c p w i j l → m ≡ filledFrom c p w i n l
-  filled-done n j m a b h = let e : j ≡ n = omega arith in rw e at h
+-- the rows from a place up to i, then row i; and all of them
+module _ (c p w from : ℕ) (l : List ℕ) where
+  pub filled-start : l ≡ filledFrom c p w from (from - from) l
+  filled-start = let e : from - from ≡ 0 = omega arith in rw e (filled-none c p w from l)
 
--- n rows more
+  pub filled-step : (i : ℕ) (k m : List ℕ) → from ≤ i → k ≡ filledFrom c p w from (i - from) l → m ≡ filledRow c p w i k → m ≡ filledFrom c p w from (i + 1 - from) l
+  filled-step i k m h hk hm =
+      let e : i + 1 - from ≡ i - from + 1 = omega arith in
+      let d : from + (i - from) ≡ i = omega arith in
+      rw e (filled-next c p w from l (i - from) k m hk (rw d hm))
+
+  pub filled-end : (to i : ℕ) (m : List ℕ) → i ≤ to → to ≤ i → m ≡ filledFrom c p w from (i - from) l → m ≡ filledFrom c p w from (to - from) l
+  filled-end to i m a b h = let e : i ≡ to = omega arith in rw e at h
+
+-- the rows below i, then those up to another place; and all c
 filled-on : (c p w i n : ℕ) (l : List ℕ) → filledFrom c p w i n (filledBelow c p w i l) ≡ filledBelow c p w (i + n) l
 unfolding filledFrom filledBelow
 filled-on c p w i zero l = let e : i + 0 ≡ i = omega arith in rw e
 filled-on c p w i (suc n) l = let e : i + suc n ≡ suc (i + n) = omega arith in rw (e, filled-on c p w i n l)
 
-pub filled-more : (c p w i n : ℕ) (l k m : List ℕ) → k ≡ filledBelow c p w i l → m ≡ filledFrom c p w i n k → m ≡ filledBelow c p w (i + n) l
-filled-more c p w i n l k m hk hm = hm ∙ ap (filledFrom c p w i n) hk ∙ filled-on c p w i n l
+pub filled-more : (c p w i to : ℕ) (l k m : List ℕ) → i < to → k ≡ filledBelow c p w i l → m ≡ filledFrom c p w i (to - i) k → m ≡ filledBelow c p w to l
+filled-more c p w i to l k m h hk hm =
+    let e : i + (to - i) ≡ to = omega arith in
+    subst (λ (z : ℕ). m ≡ filledBelow c p w z l) e (hm ∙ ap (filledFrom c p w i (to - i)) hk ∙ filled-on c p w i (to - i) l)
 
--- and then all c
-pub filled-last : (c p w i : ℕ) (l k m : List ℕ) → i ≤ c → k ≡ filledBelow c p w i l → m ≡ filledFrom c p w i (c - i) k → m ≡ filledBelow c p w c l
-filled-last c p w i l k m h hk hm =
-    let e : i + (c - i) ≡ c = omega arith in
-    subst (λ (z : ℕ). m ≡ filledBelow c p w z l) e (filled-more c p w i (c - i) l k m hk hm)
+pub filled-all : (c p w i : ℕ) (l m : List ℕ) → i ≤ c → c ≤ i → m ≡ filledBelow c p w i l → m ≡ filledBelow c p w c l
+filled-all c p w i l m a b h = let e : i ≡ c = omega arith in rw e at h
 
--- none is row p, and none names it
-pub calm-rows : (c p i n : ℕ) (l : List ℕ) → ((k : ℕ) → k < n → i + k ≡ p → ⊥) → Free p l (2 * c + i) n → Calm c p l i n
-calm-rows c p i n l own f k h =
-    let e : 2 * c + i + k ≡ 2 * c + (i + k) = omega arith in
-    let x : eqb (i + k) p ≡ false = ne-eqb (i + k) p (own k h) in
-    let y : eqb (getD l (2 * c + (i + k)) 0) p ≡ false = ne-eqb _ _ (subst (λ (z : ℕ). getD l z 0 ≡ p → ⊥) e (f k h)) in
-    rw (x, y) (and-no (eqb (getD l (i + k) 0) waitingKind))
+-- from the first row on
+pub filled-few : (c p w : ℕ) (l m : List ℕ) → m ≡ filledFrom c p w 0 (c - 0) l → m ≡ filledBelow c p w c l
+unfolding filledBelow
+filled-few c p w l m h =
+    let e : 0 + (c - 0) ≡ c = omega arith in
+    subst (λ (z : ℕ). m ≡ filledBelow c p w z l) e (h ∙ filled-on c p w 0 (c - 0) l)
+
+-- a row that names another, or is none that waits, lacks nothing
+and-no : (b : Bool) → b && false ≡ false
+and-no true = refl
+and-no false = refl
+
+-- where row p has its word and hit says that no row of a block of the links names it, the rows there lack nothing
+pub block-calm : (c p w from to low : ℕ) (l : List ℕ) (hit : Bool) → length l ≡ 4 * c → 64 ≤ c → from ≤ to → to ≤ c → to ≤ from + 64 → low ≡ to - 64
+    → Has c p l → hit ≡ among p (midOf (2 * c + low) (2 * c + low + 64 - (2 * c + low)) l) → hit ≡ false → l ≡ filledFrom c p w from (to - from) l
+block-calm c p w from to low l hit long g o b t e h f n = filled-calm c p w from l (to - from) calm
   where
-    and-no : (b : Bool) → b && false ≡ false
-    and-no true = refl
-    and-no false = refl
+    calm : Calm c p l from (to - from)
+    calm k q =
+        ⊎-elim
+        (λ (e : from + k ≡ p). subst (λ (z : ℕ). lacks p z (rowAt c l z) ≡ false) (sym e) h)
+        (λ (d : from + k ≡ p → ⊥).
+        let x : eqb (from + k) p ≡ false = ne-eqb (from + k) p d in
+        let y : eqb (getD l (2 * c + (from + k)) 0) p ≡ false =
+        ne-eqb (getD l (2 * c + (from + k)) 0) p
+        (part-free (2 * c + low) (2 * c + low + 64) l (omega arith) p (2 * c + (from + k)) (sym f ∙ n) (omega arith) (omega arith)) in
+        rw (x, y) (and-no (eqb (getD l (from + k) 0) waitingKind)))
+        (same-or-not (from + k) p)
 
--- the 64 rows from place i on, where row p stands below them or above them
-module _ (c p i : ℕ) (l : List ℕ) where
-  pub calm-below : Free p l (2 * c + i) 64 → p < i → Calm c p l i 64
-  calm-below f h = calm-rows c p i 64 l (λ k b e. omega arith) f
+-- a row that has got its word lacks nothing
+filled-has : (p w i : ℕ) (r : Row) → lacks p i (filled p w i r) ≡ false
+filled-has p w i r = pick-either (λ (x : Row). lacks p i x ≡ false) (lacks p i r) (λ h. refl) (λ h. h)
 
-  pub calm-above : Free p l (2 * c + i) 64 → i + 64 ≤ p → Calm c p l i 64
-  calm-above f h = calm-rows c p i 64 l (λ k b e. omega arith) f
+pub has-filled : (c p w : ℕ) (l m : List ℕ) → length l ≡ 4 * c → p < c → m ≡ filledRow c p w p l → Has c p m
+has-filled c p w l m long b h =
+    ap (lacks p p) (ap (λ (x : List ℕ). rowAt c x p) h ∙ row-filled-same c p w p l b (omega arith)) ∙ filled-has p w p (rowAt c l p)
+
+-- and keeps it as the others get theirs
+pub has-kept : (c p w i : ℕ) (l m : List ℕ) → length l ≡ 4 * c → p < c → i ≤ c → Has c p l → m ≡ filledBelow c p w i l → Has c p m
+has-kept c p w i l m long b n h e =
+    ⊎-elim
+    (λ (q : p < i). ap (lacks p p) (ap (λ (x : List ℕ). rowAt c x p) e ∙ row-filled-below c p w i l p n (omega arith) q) ∙ filled-has p w p (rowAt c l p))
+    (λ (q : i ≤ p). ap (lacks p p) (ap (λ (x : List ℕ). rowAt c x p) e ∙ row-filled-above c p w i l p b q) ∙ h)
+    (below-or-not p i)
+
+-- row p first, or in its turn
+twice : (p w i : ℕ) (r : Row) → filled p w i (filled p w i r) ≡ filled p w i r
+twice p w i r = rw (filled-has p w i r)
+
+pub filled-first : (c p w : ℕ) (l k m : List ℕ) → length l ≡ 4 * c → p < c → k ≡ filledRow c p w p l → m ≡ filledBelow c p w c k → m ≡ filledBelow c p w c l
+filled-first c p w l k m long b hk hm =
+    hm
+    ∙ ap (filledBelow c p w c) hk
+    ∙ rows-same c (filledBelow c p w c (filledRow c p w p l)) (filledBelow c p w c l)
+    (length-filled c p w c (filledRow c p w p l) ∙ length-filled-row c p w p l ∙ long)
+    (length-filled c p w c l ∙ long)
+    (λ (i : ℕ) (h : i < c).
+    row-filled-below c p w c (filledRow c p w p l) i (omega arith) (omega (arith, length-filled-row c p w p l)) h
+    ∙ ⊎-elim
+    (λ (e : i ≡ p). rw e (ap (filled p w p) (row-filled-same c p w p l b (omega arith)) ∙ twice p w p (rowAt c l p)))
+    (λ (n : i ≡ p → ⊥). ap (filled p w i) (row-filled-other c p w p l i b h n))
+    (same-or-not i p)
+    ∙ sym (row-filled-below c p w c l i (omega arith) (omega arith) h))
 
 ------------------------------------------------------------------------
 -- The range check
 
-pub in-range : (n c k a p : ℕ) (l : List ℕ) → UpTo k l 0 c → k ≤ 3 → UpTo a l c c → a < n → UpTo p l (2 * c) c → p < c → InRange n c l
-in-range n c k a p l uk hk ua ha up hp =
+-- the three columns, each as its look told
+pub in-range : (n c : ℕ) (l : List ℕ) (t u v : Bool) → length l ≡ 4 * c
+    → t ≡ allBelow 4 (midOf 0 (c - 0) l) → t ≡ true
+    → u ≡ allBelow n (midOf c (2 * c - c) l) → u ≡ true
+    → v ≡ allBelow c (midOf (2 * c) (3 * c - 2 * c) l) → v ≡ true → InRange n c l
+in-range n c l t u v long et ht eu hu ev hv =
     record {
-      kinds = λ i h. let e : 0 + i ≡ i = omega arith in le-trans (subst (λ (z : ℕ). getD l z 0 ≤ k) e (uk i h)) hk;
-      addresses = λ i h. let x = ua i h in omega arith;
-      links = λ i h. let x = up i h in omega arith;
+      kinds = λ i h. let x = part-below 0 c l (omega arith) 4 i (sym et ∙ ht) (omega arith) h in omega arith;
+      addresses = λ i h. part-below c (2 * c) l (omega arith) n (c + i) (sym eu ∙ hu) (omega arith) (omega arith);
+      links = λ i h. part-below (2 * c) (3 * c) l (omega arith) c (2 * c + i) (sym ev ∙ hv) (omega arith) (omega arith);
     }
 
 tests : (x y : Bool) → true && (x || true) && (y || true) ≡ true

@@ -1,2 +1,2 @@
-pub mod Lookup
 mod Columns
+pub mod Lookup

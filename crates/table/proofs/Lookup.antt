@@ -1,5 +1,5 @@
 -- A lookup, for any test of a row: its steps, its parts below and above the position, and the place that it finds. Assumes nothing.
-use Prim.Native.Nat.{ℕ, zero, suc, _+_, _-_, _≤_, _<_}
+use Prim.Native.Nat.{ℕ, zero, suc, _+_, _-_, _*_, _≤_, _<_}
 use native.Mathlib.Nat.{not-suc-le-zero, zero-add, suc-add}
 use native.Mathlib.Omega.{arith}
 use mathlib.Core.Path.{_≡_, refl, sym, _∙_, subst}
@@ -12,10 +12,13 @@ use Rattle.model.specs.declared.Row.{Row}
 use Rattle.model.specs.declared.Found.{Found}
 use Rattle.model.specs.declared.Found.the-variants.{At, Nothing}
 use Rattle.model.proofs.Rings.{back-straight, back-round}
-use Rattle.table.specs.Table.{Within, Free, wanted}
+use Rattle.flat.specs.Flat.{among}
+use Rattle.table.specs.Table.{Within, wanted}
+use Rattle.table.proofs.Columns.{part-free}
 use Rattle.map.specs.declared.Address.{Address}
 use borrow.Author.Tests.{ne-eqb}
-use lib.ListN.{getD}
+use lib.ListN.{length}
+use borrow.Rule.Slice.PartMut.{midOf}
 
 ------------------------------------------------------------------------
 -- One step
@@ -99,21 +102,21 @@ module _ (f : Row → Bool) (c : ℕ) (l : List ℕ) where
       rw (e, t) (scan-free n (i - 1) (omega arith) (λ (j : ℕ) (x : j < i - 1) (y : i - 1 ≤ j + n). h j (omega arith) (omega arith)))
 
   ------------------------------------------------------------------------
-  -- A block, the n rows before place i: r is what it gave, and the part from `from` is to find x
+  -- A block, the rows from `low` up to i: r is what it gave, and the part from `from` is to find x
 
-  module _ (from n i : ℕ) (x r : Found) where
-    pub block-hit : (j : ℕ) → scan f c l (i - from) i ≡ x → n ≤ i - from → r ≡ scan f c l (i - (i - n)) i → r ≡ At j → At j ≡ x
-    block-hit j hx b hr e =
-        let s : i - (i - n) + (i - n - from) ≡ i - from = omega arith in
-        let y : scan f c l (i - (i - n)) i ≡ At j = cc in
-        sym (rw s at (scan-found (i - (i - n)) (i - n - from) i j y)) ∙ hx
+  module _ (from low i : ℕ) (x r : Found) where
+    pub block-hit : (j : ℕ) → scan f c l (i - from) i ≡ x → from ≤ low → low < i → r ≡ scan f c l (i - low) i → r ≡ At j → At j ≡ x
+    block-hit j hx b g hr e =
+        let s : i - low + (low - from) ≡ i - from = omega arith in
+        let y : scan f c l (i - low) i ≡ At j = cc in
+        sym (rw s at (scan-found (i - low) (low - from) i j y)) ∙ hx
 
-    pub block-miss : scan f c l (i - from) i ≡ x → n ≤ i - from → r ≡ scan f c l (i - (i - n)) i → r ≡ Nothing → scan f c l (i - n - from) (i - n) ≡ x
-    block-miss hx b hr e =
-        let s : i - (i - n) + (i - n - from) ≡ i - from = omega arith in
-        let d : i - (i - (i - n)) ≡ i - n = omega arith in
-        let y : scan f c l (i - (i - n)) i ≡ Nothing = cc in
-        sym (rw (s, d) at (scan-past (i - (i - n)) (i - n - from) i (omega arith) y)) ∙ hx
+    pub block-miss : scan f c l (i - from) i ≡ x → from ≤ low → low < i → r ≡ scan f c l (i - low) i → r ≡ Nothing → scan f c l (low - from) low ≡ x
+    block-miss hx b g hr e =
+        let s : i - low + (low - from) ≡ i - from = omega arith in
+        let d : i - (i - low) ≡ low = omega arith in
+        let y : scan f c l (i - low) i ≡ Nothing = cc in
+        sym (rw (s, d) at (scan-past (i - low) (low - from) i (omega arith) y)) ∙ hx
 
   -- before place c comes what comes before place 0
   scan-over : (n : ℕ) → 0 < c → scan f c l n c ≡ scan f c l n 0
@@ -162,11 +165,10 @@ pub other-address : (written : Bool) (a : Address) (r : Row) → (r .address .0 
 other-address true a r h = simp (ne-eqb (r .address .0) (a .0) h, and-false)
 other-address false a r h = simp (ne-eqb (r .address .0) (a .0) h, and-false)
 
--- a block of 64 rows in which no address is a
-pub block-free : (written : Bool) (a : Address) (c from to : ℕ) (l : List ℕ) → to ≡ from + 64 → Free (a .0) l (c + from) 64
-    → Nothing ≡ scan (wanted written a) c l (to - from) to
-block-free written a c from to l e f =
+-- rows of a block of the addresses, hit says whether one of them is a
+pub block-free : (written : Bool) (a : Address) (c from to low : ℕ) (l : List ℕ) (hit : Bool) → length l ≡ 4 * c → 64 ≤ c → from ≤ to → to ≤ c → to ≤ from + 64
+    → low ≡ to - 64 → hit ≡ among (a .0) (midOf (c + low) (c + low + 64 - (c + low)) l) → hit ≡ false → Nothing ≡ scan (wanted written a) c l (to - from) to
+block-free written a c from to low l hit long g o b t e f n =
     scan-free (wanted written a) c l (to - from) to (omega arith)
     (λ (j : ℕ) (x : j < to) (y : to ≤ j + (to - from)).
-      let d : c + from + (j - from) ≡ c + j = omega arith in
-      other-address written a (rowAt c l j) (subst (λ (z : ℕ). getD l z 0 ≡ a .0 → ⊥) d (f (j - from) (omega arith))))
+    other-address written a (rowAt c l j) (part-free (c + low) (c + low + 64) l (omega arith) (a .0) (c + j) (sym f ∙ n) (omega arith) (omega arith)))

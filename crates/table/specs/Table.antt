@@ -21,13 +21,9 @@ abbrev pub Within : ℕ → Found → Type 0
 Within c (At i) = i < c
 Within c Nothing = Unit
 
--- r is at least each of the n numbers from a place on
-abbrev pub UpTo : ℕ → List ℕ → ℕ → ℕ → Type 0
-UpTo r l at n = (k : ℕ) → k < n → getD l (at + k) 0 ≤ r
-
--- none of the n numbers from a place on is x
-abbrev pub Free : ℕ → List ℕ → ℕ → ℕ → Type 0
-Free x l at n = (k : ℕ) → k < n → getD l (at + k) 0 ≡ x → ⊥
+-- row p has its word, or needs none
+abbrev pub Has : ℕ → ℕ → List ℕ → Type 0
+Has c p l = lacks p p (rowAt c l p) ≡ false
 
 -- none of the n rows from place i on lacks the word that row p's entry brings
 abbrev pub Calm : ℕ → ℕ → List ℕ → ℕ → ℕ → Type 0

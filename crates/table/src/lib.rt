@@ -6,7 +6,7 @@ ghost use lib.ListN.{length};
 ghost use Rattle.model.specs.Lent.{rowAt, putRow};
 ghost use Rattle.model.specs.Cycle.{lacks, withWord, filledRow, filledBelow, scan, isOf, writes};
 ghost use Rattle.model.specs.Range.{rowOk, rowsOk};
-ghost use Rattle.table.specs.Table.{wanted, Within, UpTo, Free, Calm, filledFrom, InRange};
+ghost use Rattle.table.specs.Table.{wanted, Within, Has, Calm, filledFrom, InRange};
 use map::Address;
 use model::Found;
 use model::Row;
@@ -35,70 +35,38 @@ pub fn put_row(rows: &mut [u32], c: usize, i: usize, r: Row)
     rows[3 * c + i] = r.word;
 }
 
-// ---- Parts of a column: flat loops with no way out, which become vector instructions
+// ---- Blocks of 64 rows: a look at a whole block spares the rows of one that has nothing to find
 
-// Whether one of the 64 numbers from a place on is x.
-fn among(rows: &[u32], at: usize, x: u32) -> bool
-    requires { ⌜ at + 64 ≤ length (now rows) ⌝ }
-    ensures { λ hit. ⌜ (hit ≡ false → Free x (now (rows .entry)) at 64) ⌝ }
+// Where the block of the rows below `to` begins: 64 rows below it, or with the first row.
+fn block_of(to: usize) -> usize
+    ensures { λ r. ⌜ r ≡ to - 64 ⌝ }
 {
-    let mut hit = false;
-    let mut j = 0;
-    while j < 64 {
-        hit = hit | (rows[at + j] == x);
-        j = j + 1;
+    if to < flat::BLOCK {
+        return 0;
     }
-    hit
+    to - flat::BLOCK
 }
 
-// At least each of the 64 numbers from a place on.
-fn joined(rows: &[u32], at: usize) -> u32
-    requires { ⌜ at + 64 ≤ length (now rows) ⌝ }
-    ensures { λ r. ⌜ UpTo r (now (rows .entry)) at 64 ⌝ }
+// The block below i, or what is left of it above `from`: no further down than that.
+fn block_below(from: usize, i: usize) -> usize
+    requires { ⌜ from < i ⌝ }
+    ensures { λ r. ⌜ (from ≤ r) × (r < i) × (i ≤ r + 64) ⌝ }
 {
-    let mut o: u32 = 0;
-    let mut j = 0;
-    while j < 64 {
-        o = o | rows[at + j];
-        j = j + 1;
+    if i - from <= flat::BLOCK {
+        return from;
     }
-    o
+    i - flat::BLOCK
 }
 
-// At least each of the 256 numbers from a place on.
-fn joined_wide(rows: &[u32], at: usize) -> u32
-    requires { ⌜ at + 256 ≤ length (now rows) ⌝ }
-    ensures { λ r. ⌜ UpTo r (now (rows .entry)) at 256 ⌝ }
+// The block from place i on, or what is left of it below c: no further up than that.
+fn block_above(i: usize, c: usize) -> usize
+    requires { ⌜ i < c ⌝ }
+    ensures { λ r. ⌜ (i < r) × (r ≤ i + 64) × (r ≤ c) ⌝ }
 {
-    let mut o: u32 = 0;
-    let mut j = 0;
-    while j < 256 {
-        o = o | rows[at + j];
-        j = j + 1;
+    if c - i <= flat::BLOCK {
+        return c;
     }
-    o
-}
-
-// At least each of the n numbers from a place on.
-fn joined_all(rows: &[u32], at: usize, n: usize) -> u32
-    requires { ⌜ at + n ≤ length (now rows) ⌝ }
-    ensures { λ r. ⌜ UpTo r (now (rows .entry)) at n ⌝ }
-{
-    let mut o: u32 = 0;
-    let mut i = 0;
-    while 256 <= n - i {
-        o = o | joined_wide(rows, at + i);
-        i = i + 256;
-    }
-    while 64 <= n - i {
-        o = o | joined(rows, at + i);
-        i = i + 64;
-    }
-    while i < n {
-        o = o | rows[at + i];
-        i = i + 1;
-    }
-    o
+    i + flat::BLOCK
 }
 
 // ---- Lookups
@@ -136,31 +104,44 @@ fn scan_few(rows: &[u32], c: usize, from: usize, to: usize, a: Address, written:
     Found::Nothing
 }
 
-// The last such row of the 64 from a place on: row by row only where one of them has the address.
+// The last such row from one place up to another that is at most 64 on: row by row only where the block has the address.
 fn scan_block(rows: &[u32], c: usize, from: usize, to: usize, a: Address, written: bool) -> Found
-    requires { ⌜ (length (now rows) ≡ 4 * c) × (to ≡ from + 64) × (to ≤ c) ⌝ }
+    requires { ⌜ (length (now rows) ≡ 4 * c) × (64 ≤ c) × (from ≤ to) × (to ≤ c) × (to ≤ from + 64) ⌝ }
     ensures { λ r. ⌜ (r ≡ scan (wanted written a) c (now (rows .entry)) (to - from) to) × Within to r ⌝ }
 {
-    if among(rows, c + from, a.0) {
+    let at = c + block_of(to);
+    if flat::among(&rows[at..at + flat::BLOCK], a.0) {
         return scan_few(rows, c, from, to, a, written);
     }
     Found::Nothing
 }
 
 // The last such row from one place up to another: straight down by blocks, so that no step has to look for the end of the table.
+fn scan_blocks(rows: &[u32], c: usize, from: usize, to: usize, a: Address, written: bool) -> Found
+    requires { ⌜ (length (now rows) ≡ 4 * c) × (64 ≤ c) × (from ≤ to) × (to ≤ c) ⌝ }
+    ensures { λ r. ⌜ (r ≡ scan (wanted written a) c (now (rows .entry)) (to - from) to) × Within to r ⌝ }
+{
+    let mut i = to;
+    while from < i {
+        let low = block_below(from, i);
+        let r = scan_block(rows, c, low, i, a, written);
+        if let Found::At(j) = r {
+            return Found::At(j);
+        }
+        i = low;
+    }
+    Found::Nothing
+}
+
+// A table that is shorter than a block has none.
 fn scan_part(rows: &[u32], c: usize, from: usize, to: usize, a: Address, written: bool) -> Found
     requires { ⌜ (length (now rows) ≡ 4 * c) × (from ≤ to) × (to ≤ c) ⌝ }
     ensures { λ r. ⌜ (r ≡ scan (wanted written a) c (now (rows .entry)) (to - from) to) × Within to r ⌝ }
 {
-    let mut i = to;
-    while 64 <= i - from {
-        let r = scan_block(rows, c, i - 64, i, a, written);
-        if let Found::At(j) = r {
-            return Found::At(j);
-        }
-        i = i - 64;
+    if c < flat::BLOCK {
+        return scan_few(rows, c, from, to, a, written);
     }
-    scan_few(rows, c, from, i, a, written)
+    scan_blocks(rows, c, from, to, a, written)
 }
 
 // The first such row before the position, going round: in the part below it, else in the part above it.
@@ -223,55 +204,54 @@ fn fill_row(rows: &mut [u32], c: usize, i: usize, p: u32, w: u32)
     }
 }
 
-// The n rows from place i on, row by row.
-fn fill_few(rows: &mut [u32], c: usize, i: usize, n: usize, p: u32, w: u32)
-    requires { ⌜ (length (now rows) ≡ 4 * c) × (i + n ≤ c) × (c ≤ 4096) ⌝ }
-    ensures { λ _. ⌜ now (rows .exit) ≡ filledFrom c p w i n (now (rows .entry)) ⌝ }
+// The rows from one place up to another, row by row.
+fn fill_few(rows: &mut [u32], c: usize, from: usize, to: usize, p: u32, w: u32)
+    requires { ⌜ (length (now rows) ≡ 4 * c) × (from ≤ to) × (to ≤ c) × (c ≤ 4096) ⌝ }
+    ensures { λ _. ⌜ now (rows .exit) ≡ filledFrom c p w from (to - from) (now (rows .entry)) ⌝ }
 {
-    let mut j = 0;
-    while j < n {
-        fill_row(rows, c, i + j, p, w);
-        j = j + 1;
+    let mut i = from;
+    while i < to {
+        fill_row(rows, c, i, p, w);
+        i = i + 1;
     }
 }
 
-// None of the 64 rows from place i on is row p or names it.
-fn calm(rows: &[u32], c: usize, i: usize, p: u32) -> bool
-    requires { ⌜ (length (now rows) ≡ 4 * c) × (i + 64 ≤ c) × (c ≤ 4096) ⌝ }
-    ensures { λ yes. ⌜ (yes ≡ true → Calm c p (now (rows .entry)) i 64) ⌝ }
+// The rows from one place up to another that is at most 64 on, where row p has its word:
+// row by row only where one of the block names row p.
+fn fill_block(rows: &mut [u32], c: usize, from: usize, to: usize, p: u32, w: u32)
+    requires { ⌜ (length (now rows) ≡ 4 * c) × (64 ≤ c) × (from ≤ to) × (to ≤ c) × (to ≤ from + 64) × (c ≤ 4096) × Has c p (now rows) ⌝ }
+    ensures { λ _. ⌜ now (rows .exit) ≡ filledFrom c p w from (to - from) (now (rows .entry)) ⌝ }
 {
-    if among(rows, 2 * c + i, p) {
-        return false;
+    let at = 2 * c + block_of(to);
+    if flat::among(&rows[at..at + flat::BLOCK], p) {
+        fill_few(rows, c, from, to, p, w);
     }
-    let q = p as usize;
-    if q < i {
-        return true;
-    }
-    i + 64 <= q
 }
 
-// The 64 rows from place i on: row by row only where one of them is row p or names it.
-fn fill_block(rows: &mut [u32], c: usize, i: usize, p: u32, w: u32)
-    requires { ⌜ (length (now rows) ≡ 4 * c) × (i + 64 ≤ c) × (c ≤ 4096) ⌝ }
-    ensures { λ _. ⌜ now (rows .exit) ≡ filledFrom c p w i 64 (now (rows .entry)) ⌝ }
-{
-    if calm(rows, c, i, p) {
-        return;
-    }
-    fill_few(rows, c, i, 64, p, w);
-}
-
-// Row p's entry has brought the word w: every row that lacks it gets it.
-pub fn fill(rows: &mut [u32], c: usize, p: u32, w: u32)
-    requires { ⌜ (length (now rows) ≡ 4 * c) × (c ≤ 4096) ⌝ }
+// Every row, where row p has its word.
+fn fill_others(rows: &mut [u32], c: usize, p: u32, w: u32)
+    requires { ⌜ (length (now rows) ≡ 4 * c) × (64 ≤ c) × (p < c) × (c ≤ 4096) × Has c p (now rows) ⌝ }
     ensures { λ _. ⌜ now (rows .exit) ≡ filledBelow c p w c (now (rows .entry)) ⌝ }
 {
     let mut i = 0;
-    while 64 <= c - i {
-        fill_block(rows, c, i, p, w);
-        i = i + 64;
+    while i < c {
+        let to = block_above(i, c);
+        fill_block(rows, c, i, to, p, w);
+        i = to;
     }
-    fill_few(rows, c, i, c - i, p, w);
+}
+
+// Row p's entry has brought the word w: every row that lacks it gets it. Row p first, since its own block always names it.
+pub fn fill(rows: &mut [u32], c: usize, p: u32, w: u32)
+    requires { ⌜ (length (now rows) ≡ 4 * c) × (p < c) × (c ≤ 4096) ⌝ }
+    ensures { λ _. ⌜ now (rows .exit) ≡ filledBelow c p w c (now (rows .entry)) ⌝ }
+{
+    if c < flat::BLOCK {
+        fill_few(rows, c, 0, c, p, w);
+        return;
+    }
+    fill_row(rows, c, p as usize, p, w);
+    fill_others(rows, c, p, w);
 }
 
 // ---- The range check
@@ -286,18 +266,19 @@ fn row_ok(r: Row, n: u32, c: u32) -> bool
 }
 
 // The numbers of every row are in range whatever its kind is. In a run that is so, so this is quick;
-// of rows that no run leaves, or of a c that is no power of two, it may say no though they are in range.
+// of rows that no run leaves, it may say no though they are in range.
 fn plainly_ok(rows: &[u32], c: usize, n: u32) -> bool
     requires { ⌜ (length (now rows) ≡ 4 * c) × (c ≤ 4096) ⌝ }
     ensures { λ yes. ⌜ (yes ≡ true → InRange n c (now (rows .entry))) ⌝ }
 {
-    if Row::WAITING < joined_all(rows, 0, c) {
-        return false;
+    let links = 2 * c;
+    let words = 3 * c;
+    if flat::all_below(&rows[0..c], Row::WAITING + 1) {
+        if flat::all_below(&rows[c..links], n) {
+            return flat::all_below(&rows[links..words], c as u32);
+        }
     }
-    if n <= joined_all(rows, c, c) {
-        return false;
-    }
-    joined_all(rows, 2 * c, c) < c as u32
+    false
 }
 
 // Every row is in range, row by row.

@@ -1,61 +1,46 @@
--- `buffers::buffers_ok` meets its contract. The loop's invariant: the buffers of the banks below b are in range. Assumes nothing.
+-- `buffers::buffers_ok` meets its contract: with a head out of range or with nothing waiting the heads decide. Assumes nothing.
 use borrow.Author.Needs.{needs}
-use Prim.Native.Nat.{_≤_, _-_}
-use mathlib.Core.Path.{_≡_, refl}
-use mathlib.Core.Bool.{true}
-use native.Mathlib.Omega.{arith}
-use Rattle.model.specs.Lent.{buffersIn}
-use Rattle.model.specs.Range.{buffersOk}
-use Rattle.buffers.proofs.Waiting.{buffers-more, buffers-out, buffers-all}
+use Rattle.buffers.proofs.Waiting.{told-none, told-below, told-out}
 use Rattle.buffers.proofs.buffers_ok.Statement.{statement}
 use Rattle.buffers.proofs.buffers_ok.Tie as tie
 
-abbrev Inv-loop : tie.InvT-loop
-Inv-loop s n entries heads banks b₀ b = (b ≤ banks) × (buffersOk s (buffersIn entries heads) b ≡ true)
-
-abbrev μ-loop : tie.MeasureT-loop
-μ-loop s n entries heads banks b₀ b = banks - b
-
-banks-requires : tie.Need-banks-requires Inv-loop μ-loop
+banks-requires : tie.Need-banks-requires
 banks-requires c κs = search needs
 
-cast-banks : tie.Need-cast-banks Inv-loop μ-loop
+cast-banks : tie.Need-cast-banks
 cast-banks c = search needs
 
-loop-holds : tie.Need-loop-holds Inv-loop μ-loop
-unfolding buffersOk
-loop-holds c = (omega arith, refl)
+cast-k : tie.Need-cast-k
+cast-k c = search needs
 
-buffer-ok-requires : tie.Need-buffer-ok-requires Inv-loop μ-loop
-buffer-ok-requires c κs = search needs
+add-pairs : tie.Need-add-pairs
+add-pairs c = search needs
 
-add-b : tie.Need-add-b Inv-loop μ-loop
-add-b c = search needs
+pairs-requires : tie.Need-pairs-requires
+pairs-requires c κs = search needs
 
-loop-less : tie.Need-loop-less Inv-loop μ-loop
-loop-less c = search needs
+returns : tie.Need-returns
+returns c = search told-none
 
-loop-again : tie.Need-loop-again Inv-loop μ-loop
-loop-again c = (omega arith, search (buffers-more))
+all-ok-requires : tie.Need-all-ok-requires
+all-ok-requires c κs = (search told-below, search needs, search needs)
 
-returns : tie.Need-returns Inv-loop μ-loop
-returns c = search (buffers-out)
+returns-2 : tie.Need-returns-2
+returns-2 c = search needs
 
-returns-2 : tie.Need-returns-2 Inv-loop μ-loop
-returns-2 c = search (buffers-all)
+returns-3 : tie.Need-returns-3
+returns-3 c = search told-out
 
 pub buffers-ok-spec : {M : Type 1} → statement M
 buffers-ok-spec =
     tie.close
     (tie.spec
-    Inv-loop
-    μ-loop
     banks-requires
     cast-banks
-    loop-holds
-    buffer-ok-requires
-    add-b
-    loop-less
-    loop-again
+    cast-k
+    add-pairs
+    pairs-requires
     returns
-    returns-2)
+    all-ok-requires
+    returns-2
+    returns-3)

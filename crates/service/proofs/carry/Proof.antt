@@ -1,5 +1,5 @@
 -- `service::carry` meets its contract: a write is stored, and a read's word fills its rows. Assumes nothing.
-use Rattle.service.proofs.Ways.{carry-write, carry-read}
+use Rattle.service.proofs.Ways.{carry-write, carry-read, carry-named}
 use borrow.Author.Needs.{needs}
 use Rattle.service.proofs.carry.Statement.{statement}
 use Rattle.service.proofs.carry.Tie as tie
@@ -29,7 +29,7 @@ cast-fill : tie.Need-cast-fill
 cast-fill c = search needs
 
 fill-requires : tie.Need-fill-requires
-fill-requires c κs = search needs
+fill-requires c κs = (search needs, search carry-named, search needs)
 
 same-length-2 : tie.Need-same-length-2
 same-length-2 c = search needs

@@ -1,6 +1,6 @@
 -- `service::serve_bank` meets its contract: with nothing waiting nothing changes, else the oldest entry is carried out. Assumes nothing.
 use Rattle.buffers.proofs.Banks.{good-head, good-buffer}
-use Rattle.service.proofs.Ways.{some-wait, carry-cell, serve-none, serve-some}
+use Rattle.service.proofs.Ways.{some-wait, carry-cell, carry-row, serve-none, serve-some}
 use borrow.Author.Needs.{needs}
 use Rattle.service.proofs.serve_bank.Statement.{statement}
 use Rattle.service.proofs.serve_bank.Tie as tie
@@ -21,7 +21,7 @@ pop-requires : tie.Need-pop-requires
 pop-requires c κs = search (good-head, some-wait)
 
 carry-requires : tie.Need-carry-requires
-carry-requires c κs = (search needs, search needs, search (carry-cell))
+carry-requires c κs = (search needs, search needs, search (carry-cell), search (carry-row))
 
 same-length-2 : tie.Need-same-length-2
 same-length-2 c = search needs

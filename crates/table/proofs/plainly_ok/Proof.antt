@@ -1,43 +1,95 @@
-use native.Mathlib.Omega.{arith}
-use borrow.Author.Tests.{ltb-true}
-use Rattle.table.proofs.Columns.{in-range, said-no}
+-- `table::plainly_ok` meets its contract: a yes comes after a yes of each column. Assumes nothing.
 use borrow.Author.Needs.{needs}
+use Rattle.flat.proofs.Below.{said-no}
+use Rattle.table.proofs.Columns.{in-range}
 use Rattle.table.proofs.plainly_ok.Statement.{statement}
 use Rattle.table.proofs.plainly_ok.Tie as tie
 
-joined-all-requires : tie.Need-joined-all-requires
-joined-all-requires c κs = search needs
+mul-links : tie.Need-mul-links
+mul-links c = search needs
+
+mul-words : tie.Need-mul-words
+mul-words c = search needs
+
+sub-all-below : tie.Need-sub-all-below
+sub-all-below c = search needs
+
+part-all-below-start : tie.Need-part-all-below-start
+part-all-below-start c = search needs
+
+part-all-below-end : tie.Need-part-all-below-end
+part-all-below-end c = search needs
+
+add-all-below : tie.Need-add-all-below
+add-all-below c = search needs
+
+all-below-requires : tie.Need-all-below-requires
+all-below-requires c κs = search needs
+
+mul-all-below : tie.Need-mul-all-below
+mul-all-below c = search needs
+
+sub-all-below-2 : tie.Need-sub-all-below-2
+sub-all-below-2 c = search needs
+
+part-all-below-start-2 : tie.Need-part-all-below-start-2
+part-all-below-start-2 c = search needs
+
+part-all-below-end-2 : tie.Need-part-all-below-end-2
+part-all-below-end-2 c = search needs
+
+all-below-requires-2 : tie.Need-all-below-requires-2
+all-below-requires-2 c κs = search needs
+
+mul-all-below-2 : tie.Need-mul-all-below-2
+mul-all-below-2 c = search needs
+
+sub-all-below-3 : tie.Need-sub-all-below-3
+sub-all-below-3 c = search needs
+
+part-all-below-start-3 : tie.Need-part-all-below-start-3
+part-all-below-start-3 c = search needs
+
+part-all-below-end-3 : tie.Need-part-all-below-end-3
+part-all-below-end-3 c = search needs
+
+cast-all-below : tie.Need-cast-all-below
+cast-all-below c = search needs
+
+all-below-requires-3 : tie.Need-all-below-requires-3
+all-below-requires-3 c κs = search needs
 
 returns : tie.Need-returns
-returns c = said-no
-
-joined-all-requires-2 : tie.Need-joined-all-requires-2
-joined-all-requires-2 c κs = search needs
+returns c = λ t. search (in-range, t)
 
 returns-2 : tie.Need-returns-2
 returns-2 c = said-no
 
-mul-joined-all : tie.Need-mul-joined-all
-mul-joined-all c = search needs
-
-joined-all-requires-3 : tie.Need-joined-all-requires-3
-joined-all-requires-3 c κs = search needs
-
-cast-result : tie.Need-cast-result
-cast-result c = search needs
-
 returns-3 : tie.Need-returns-3
-returns-3 c = λ t. in-range _ _ _ _ _ _ (c .before .before .before .before .joined-all .ensures) (omega arith) (c .before .before .joined-all2 .ensures) (omega arith) (c .joined-all3 .ensures) (ltb-true _ _ t)
+returns-3 c = said-no
 
 pub plainly-ok-spec : {M : Type 1} → statement M
 plainly-ok-spec =
     tie.close
     (tie.spec
-    joined-all-requires
+    mul-links
+    mul-words
+    sub-all-below
+    part-all-below-start
+    part-all-below-end
+    add-all-below
+    all-below-requires
+    mul-all-below
+    sub-all-below-2
+    part-all-below-start-2
+    part-all-below-end-2
+    all-below-requires-2
+    mul-all-below-2
+    sub-all-below-3
+    part-all-below-start-3
+    part-all-below-end-3
+    cast-all-below
+    all-below-requires-3
     returns
-    joined-all-requires-2
     returns-2
-    mul-joined-all
-    joined-all-requires-3
-    cast-result
     returns-3)

@@ -1,17 +1,18 @@
+-- `flat::joined_wide` meets its contract. The loop's invariant: o is at least each of the j numbers. Assumes nothing.
+use borrow.Author.Needs.{needs}
 use Prim.Native.Nat.{_-_, _≤_}
 use native.Mathlib.Nat.{not-suc-le-zero}
 use native.Mathlib.Omega.{arith}
-use Rattle.table.specs.Table.{UpTo}
-use Rattle.table.proofs.Columns.{upto-one}
-use borrow.Author.Needs.{needs}
-use Rattle.table.proofs.joined_wide.Statement.{statement}
-use Rattle.table.proofs.joined_wide.Tie as tie
+use Rattle.flat.specs.Flat.{UpTo}
+use Rattle.flat.proofs.Flat.{upto-one}
+use Rattle.flat.proofs.joined_wide.Statement.{statement}
+use Rattle.flat.proofs.joined_wide.Tie as tie
 
 abbrev Inv-loop : tie.InvT-loop
-Inv-loop rows at o₀ j₀ o j = (j ≤ 256) × UpTo o rows at j
+Inv-loop part at o₀ j₀ o j = (j ≤ 256) × UpTo o part at j
 
 abbrev μ-loop : tie.MeasureT-loop
-μ-loop rows at o₀ j₀ o j = 256 - j
+μ-loop part at o₀ j₀ o j = 256 - j
 
 loop-holds : tie.Need-loop-holds Inv-loop μ-loop
 loop-holds c = (omega arith, λ k h. absurd (not-suc-le-zero h))

@@ -1,25 +1,22 @@
+-- `flat::among` meets its contract. The loop's invariant: hit says whether one of the first j is x. Assumes nothing.
+use borrow.Author.Needs.{needs}
 use Prim.Native.Nat.{_-_, _≤_}
 use mathlib.Core.Path.{_≡_}
-use mathlib.Core.Bool.{false}
-use native.Mathlib.Nat.{not-suc-le-zero}
+use lib.ListN.{take}
 use native.Mathlib.Omega.{arith}
-use Rattle.table.specs.Table.{Free}
-use Rattle.table.proofs.Columns.{free-one}
-use borrow.Author.Needs.{needs}
-use Rattle.table.proofs.among.Statement.{statement}
-use Rattle.table.proofs.among.Tie as tie
+use Rattle.flat.specs.Flat.{among}
+use Rattle.flat.proofs.Flat.{among-none, among-next, among-all}
+use Rattle.flat.proofs.among.Statement.{statement}
+use Rattle.flat.proofs.among.Tie as tie
 
 abbrev Inv-loop : tie.InvT-loop
-Inv-loop rows at x hit₀ j₀ hit j = (j ≤ 64) × (hit ≡ false → Free x rows at j)
+Inv-loop part x hit₀ j₀ hit j = (j ≤ 64) × (hit ≡ among x (take j part))
 
 abbrev μ-loop : tie.MeasureT-loop
-μ-loop rows at x hit₀ j₀ hit j = 64 - j
+μ-loop part x hit₀ j₀ hit j = 64 - j
 
 loop-holds : tie.Need-loop-holds Inv-loop μ-loop
-loop-holds c = (omega arith, λ e k h. absurd (not-suc-le-zero h))
-
-add-hit : tie.Need-add-hit Inv-loop μ-loop
-add-hit c = search needs
+loop-holds c = (omega arith, search among-none)
 
 mul-hit : tie.Need-mul-hit Inv-loop μ-loop
 mul-hit c = search needs
@@ -34,10 +31,10 @@ loop-less : tie.Need-loop-less Inv-loop μ-loop
 loop-less c = search needs
 
 loop-again : tie.Need-loop-again Inv-loop μ-loop
-loop-again c = (omega arith, search (free-one, c .before .before .loop .inv .1))
+loop-again c = (omega arith, search among-next)
 
 returns : tie.Need-returns Inv-loop μ-loop
-returns c = λ e k h. c .before .loop .inv .1 e k (omega arith)
+returns c = search among-all
 
 pub among-spec : {M : Type 1} → statement M
 among-spec =
@@ -46,7 +43,6 @@ among-spec =
     Inv-loop
     μ-loop
     loop-holds
-    add-hit
     mul-hit
     shared-slice-read-hit
     add-j

@@ -1,38 +1,38 @@
+-- `flat::joined_all` meets its contract. Each loop's invariant: o is at least each of the first i numbers. Assumes nothing.
+use borrow.Author.Needs.{needs}
 use Prim.Native.Nat.{_-_, _≤_}
+use mathlib.Core.Path.{_≡_}
+use lib.ListN.{length}
 use native.Mathlib.Nat.{not-suc-le-zero}
 use native.Mathlib.Omega.{arith}
-use Rattle.table.specs.Table.{UpTo}
-use Rattle.table.proofs.Columns.{upto-one, upto-more}
-use borrow.Author.Needs.{needs}
-use Rattle.table.proofs.joined_all.Statement.{statement}
-use Rattle.table.proofs.joined_all.Tie as tie
+use Rattle.flat.specs.Flat.{UpTo}
+use Rattle.flat.proofs.Flat.{upto-more, upto-next}
+use Rattle.flat.proofs.joined_all.Statement.{statement}
+use Rattle.flat.proofs.joined_all.Tie as tie
 
 abbrev Inv-loop : tie.InvT-loop
-Inv-loop rows at n o₀ i₀ o i = (i ≤ n) × UpTo o rows at i
+Inv-loop part n o₀ i₀ o i = (n ≡ length part) × (i ≤ n) × UpTo o part 0 i
 
 abbrev μ-loop : tie.MeasureT-loop
-μ-loop rows at n o₀ i₀ o i = n - i
+μ-loop part n o₀ i₀ o i = n - i
 
 abbrev Inv-loop2 : tie.InvT-loop2
-Inv-loop2 rows at n o₀ i₀ o i = (i ≤ n) × UpTo o rows at i
+Inv-loop2 part n o₀ i₀ o i = (n ≡ length part) × (i ≤ n) × UpTo o part 0 i
 
 abbrev μ-loop2 : tie.MeasureT-loop2
-μ-loop2 rows at n o₀ i₀ o i = n - i
+μ-loop2 part n o₀ i₀ o i = n - i
 
 abbrev Inv-loop3 : tie.InvT-loop3
-Inv-loop3 rows at n o₀ i₀ o i = (i ≤ n) × UpTo o rows at i
+Inv-loop3 part n o₀ i₀ o i = (n ≡ length part) × (i ≤ n) × UpTo o part 0 i
 
 abbrev μ-loop3 : tie.MeasureT-loop3
-μ-loop3 rows at n o₀ i₀ o i = n - i
+μ-loop3 part n o₀ i₀ o i = n - i
 
 loop-holds : tie.Need-loop-holds Inv-loop μ-loop Inv-loop2 μ-loop2 Inv-loop3 μ-loop3
-loop-holds c = (omega arith, λ k h. absurd (not-suc-le-zero h))
+loop-holds c = (omega arith, omega arith, λ k h. absurd (not-suc-le-zero h))
 
 sub-loop : tie.Need-sub-loop Inv-loop μ-loop Inv-loop2 μ-loop2 Inv-loop3 μ-loop3
 sub-loop c = search needs
-
-add-joined-wide : tie.Need-add-joined-wide Inv-loop μ-loop Inv-loop2 μ-loop2 Inv-loop3 μ-loop3
-add-joined-wide c = search needs
 
 joined-wide-requires :
     tie.Need-joined-wide-requires Inv-loop μ-loop Inv-loop2 μ-loop2 Inv-loop3 μ-loop3
@@ -45,16 +45,13 @@ loop-less : tie.Need-loop-less Inv-loop μ-loop Inv-loop2 μ-loop2 Inv-loop3 μ-
 loop-less c = search needs
 
 loop-again : tie.Need-loop-again Inv-loop μ-loop Inv-loop2 μ-loop2 Inv-loop3 μ-loop3
-loop-again c = (omega arith, search upto-more)
+loop-again c = (omega arith, omega arith, search upto-more)
 
 loop2-holds : tie.Need-loop2-holds Inv-loop μ-loop Inv-loop2 μ-loop2 Inv-loop3 μ-loop3
 loop2-holds c = search needs
 
 sub-loop2 : tie.Need-sub-loop2 Inv-loop μ-loop Inv-loop2 μ-loop2 Inv-loop3 μ-loop3
 sub-loop2 c = search needs
-
-add-joined : tie.Need-add-joined Inv-loop μ-loop Inv-loop2 μ-loop2 Inv-loop3 μ-loop3
-add-joined c = search needs
 
 joined-requires : tie.Need-joined-requires Inv-loop μ-loop Inv-loop2 μ-loop2 Inv-loop3 μ-loop3
 joined-requires c κs = search needs
@@ -66,13 +63,10 @@ loop2-less : tie.Need-loop2-less Inv-loop μ-loop Inv-loop2 μ-loop2 Inv-loop3 �
 loop2-less c = search needs
 
 loop2-again : tie.Need-loop2-again Inv-loop μ-loop Inv-loop2 μ-loop2 Inv-loop3 μ-loop3
-loop2-again c = (omega arith, search upto-more)
+loop2-again c = (omega arith, omega arith, search upto-more)
 
 loop3-holds : tie.Need-loop3-holds Inv-loop μ-loop Inv-loop2 μ-loop2 Inv-loop3 μ-loop3
 loop3-holds c = search needs
-
-add-o : tie.Need-add-o Inv-loop μ-loop Inv-loop2 μ-loop2 Inv-loop3 μ-loop3
-add-o c = search needs
 
 mul-o : tie.Need-mul-o Inv-loop μ-loop Inv-loop2 μ-loop2 Inv-loop3 μ-loop3
 mul-o c = search needs
@@ -88,10 +82,10 @@ loop3-less : tie.Need-loop3-less Inv-loop μ-loop Inv-loop2 μ-loop2 Inv-loop3 �
 loop3-less c = search needs
 
 loop3-again : tie.Need-loop3-again Inv-loop μ-loop Inv-loop2 μ-loop2 Inv-loop3 μ-loop3
-loop3-again c = (omega arith, search upto-one)
+loop3-again c = (omega arith, omega arith, search upto-next)
 
 returns : tie.Need-returns Inv-loop μ-loop Inv-loop2 μ-loop2 Inv-loop3 μ-loop3
-returns c = λ k h. c .before .loop3 .inv .1 k (omega arith)
+returns c = λ k h. c .before .loop3 .inv .2 k (omega arith)
 
 pub joined-all-spec : {M : Type 1} → statement M
 joined-all-spec =
@@ -105,20 +99,17 @@ joined-all-spec =
     μ-loop3
     loop-holds
     sub-loop
-    add-joined-wide
     joined-wide-requires
     add-i
     loop-less
     loop-again
     loop2-holds
     sub-loop2
-    add-joined
     joined-requires
     add-i-2
     loop2-less
     loop2-again
     loop3-holds
-    add-o
     mul-o
     shared-slice-read-o
     add-i-3

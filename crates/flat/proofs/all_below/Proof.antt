@@ -1,0 +1,21 @@
+-- `flat::all_below` meets its contract: numbers that are below the bound all together are so each. Assumes nothing.
+use borrow.Author.Needs.{needs}
+use native.Mathlib.Omega.{arith}
+use Rattle.flat.proofs.Flat.{upto-below}
+use Rattle.flat.proofs.all_below.Statement.{statement}
+use Rattle.flat.proofs.all_below.Tie as tie
+
+joined-all-requires : tie.Need-joined-all-requires
+joined-all-requires c κs = search needs
+
+returns : tie.Need-returns
+returns c = upto-below _ _ _ (c .before .joined-all .ensures) (omega arith)
+
+each-below-requires : tie.Need-each-below-requires
+each-below-requires c κs = search needs
+
+returns-2 : tie.Need-returns-2
+returns-2 c = search needs
+
+pub all-below-spec : {M : Type 1} → statement M
+all-below-spec = tie.close (tie.spec joined-all-requires returns each-below-requires returns-2)
