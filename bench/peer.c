@@ -3,21 +3,12 @@
 
 #include <string.h>
 
-/* The lent rooms of 32-bit numbers, seen as what they hold (docs/INTERFACE.md, "What is lent"). */
+/* The lent rooms of 32-bit numbers (docs/INTERFACE.md, "What is lent"). The rows stand in columns of C numbers each: kinds,
+ * addresses, links, words. An entry is four numbers next to one another, and a bank's head is two. */
 enum { ROW_EMPTY, ROW_WRITE, ROW_READY, ROW_WAITING };
 enum { ENTRY_READ, ENTRY_WRITE };
-
-struct row {
-    uint32_t kind, address, word, link;
-};
-
-struct entry {
-    uint32_t kind, row, cell, word;
-};
-
-struct head {
-    uint32_t oldest, count;
-};
+enum { KIND, ROW, CELL, WORD, ENTRY };
+enum { OLDEST, COUNT, HEAD };
 
 /* ---- Setups --------------------------------------------------------------------------------------------------------- */
 
@@ -69,167 +60,332 @@ static uint32_t after(uint32_t i, uint32_t end)
     return i + 1 == end ? 0 : i + 1;
 }
 
-/* ---- What answer 3 looks at --------------------------------------------------------------------------------------------
- * The loops over all rows and entries ask for the rare thing first: the kind only matters where a number is out of range. */
-
-/* Rows: kind, the address of a row that is not empty, the link of a waiting row. */
-static int rows_in_range(const struct row *rows, uint32_t c, uint32_t n)
+/* The lesser of two numbers. */
+static uint32_t least(uint32_t a, uint32_t b)
 {
-    for (const struct row *r = rows; r != rows + c; r++) {
-        if (r->kind > ROW_WAITING
-            || (r->address >= n && r->kind != ROW_EMPTY)
-            || (r->link >= c && r->kind == ROW_WAITING))
-            return 0;
+    return a < b ? a : b;
+}
+
+/* ---- Numbers taken together --------------------------------------------------------------------------------------------
+ * A call looks at whole columns. It does so by blocks, in loops of a fixed length without a way out: a compiler makes vector
+ * instructions of these. */
+
+enum { BLOCK = 64 };
+
+/* The bits of all the numbers together. */
+static uint32_t bits_of(const uint32_t *numbers, uint32_t count)
+{
+    uint32_t bits = 0;
+
+    for (; count >= BLOCK; count -= BLOCK, numbers += BLOCK)
+        for (int i = 0; i < BLOCK; i++)
+            bits |= numbers[i];
+    for (; count != 0; count--)
+        bits |= *numbers++;
+    return bits;
+}
+
+/* Four numbers that stand side by side, or the bits of many such. */
+struct four {
+    uint32_t a, b, c, d;
+};
+
+/* The bits of the numbers, every fourth together; the count is a multiple of four. */
+static struct four bits_by_four(const uint32_t *numbers, uint32_t count)
+{
+    struct four bits = { 0, 0, 0, 0 };
+
+    for (; count != 0; count -= 4, numbers += 4) {
+        bits.a |= numbers[0];
+        bits.b |= numbers[1];
+        bits.c |= numbers[2];
+        bits.d |= numbers[3];
     }
-    return 1;
+    return bits;
 }
 
-/* One buffer: oldest place and count; of the entries that wait kind, cell and a read's row. */
-static int buffer_in_range(struct head head, const struct entry *buffer, uint32_t k, uint32_t c, uint32_t n)
+/* How many of the numbers, at most a block, are this one. */
+static inline uint32_t times(uint32_t number, const uint32_t *numbers, uint32_t count)
 {
-    if (head.oldest >= k || head.count > k)
-        return 0;
-    for (uint32_t i = head.oldest; head.count > 0; head.count--, i = after(i, k)) {
-        const struct entry *e = &buffer[i];
-        if (e->kind > ENTRY_WRITE || e->cell >= n || (e->row >= c && e->kind == ENTRY_READ))
-            return 0;
-    }
-    return 1;
+    uint32_t found = 0;
+
+    if (count == BLOCK)
+        for (int i = 0; i < BLOCK; i++)
+            found += numbers[i] == number;
+    else
+        for (uint32_t i = 0; i < count; i++)
+            found += numbers[i] == number;
+    return found;
 }
 
-/* State, rows and buffers: whether each number is in the range its meaning allows. */
-static int state_in_range(const ridkostan_setup *s, const ridkostan_state *state, const struct row *rows,
-                          const struct entry *entries, const struct head *heads)
-{
-    const uint32_t n = 1u << s->a, banks = 1u << s->s;
-
-    if (state->stopped > 1 || state->turn >= s->m || state->position >= s->c || !rows_in_range(rows, s->c, n))
-        return 0;
-    for (uint32_t b = 0; b < banks; b++)
-        if (!buffer_in_range(heads[b], &entries[b * s->k], s->k, s->c, n))
-            return 0;
-    return 1;
-}
-
-/* ---- One cycle ------------------------------------------------------------------------------------------------------ */
-
-/* Service of a read entry: its word goes to its row and to every row waiting on that row. */
-static void hand_out(struct row *rows, uint32_t c, uint32_t place, uint32_t word)
-{
-    if (rows[place].kind == ROW_WAITING)
-        rows[place].link = place;
-    for (struct row *r = rows; r != rows + c; r++)
-        if (r->link == place && r->kind == ROW_WAITING)
-            *r = (struct row){ ROW_READY, r->address, word, 0 };
-}
-
-/* Service: each bank whose turn it is takes the oldest entry of its buffer, if any. */
-static void serve(const ridkostan_setup *s, uint32_t turn, uint32_t *memory, struct row *rows,
-                  const struct entry *entries, struct head *heads)
-{
-    const uint32_t banks = 1u << s->s;
-
-    for (uint32_t b = turn; b < banks; b += s->m) {
-        struct head *h = &heads[b];
-        if (h->count == 0)
-            continue;
-        const struct entry *e = &entries[b * s->k + h->oldest];
-        if (e->kind == ENTRY_WRITE)
-            memory[e->cell] = e->word;
-        else
-            hand_out(rows, s->c, e->row, memory[e->cell]);
-        h->oldest = after(h->oldest, s->k);
-        h->count--;
-    }
-}
-
-/* Delivery: what leaves of the row filled at t - delta. */
-static void deliver(const struct row *row, ridkostan_reply *reply)
-{
-    if (row->kind == ROW_READY) {
-        reply->delivery = RIDKOSTAN_WORD;
-        reply->word = row->word;
-    } else if (row->kind == ROW_WAITING) {
-        reply->delivery = RIDKOSTAN_UNREADY;
-    }
-}
-
-/* The last row from first up to end that is of the address and of one of the kinds (a bit for each), or NULL. */
-static const struct row *last_of(const struct row *first, const struct row *end, uint32_t address, uint32_t kinds)
+/* The last of the whole blocks from first up to end that has the number, or NULL. */
+static const uint32_t *last_block_with(uint32_t number, const uint32_t *first, const uint32_t *end)
 {
     while (end != first) {
-        end--;
-        if (end->address == address && (kinds >> end->kind) & 1)
+        uint32_t found = 0;
+        end -= BLOCK;
+        for (int i = 0; i < BLOCK; i++)
+            found |= end[i] == number ? ~0u : 0;
+        if (found)
             return end;
     }
     return NULL;
 }
 
-/* Lookup: the newest row of the address and the kinds among the c - 1 rows other than the one at position, or NULL. */
-static const struct row *newest(const struct row *rows, uint32_t c, uint32_t position, uint32_t address, uint32_t kinds)
+/* ---- What answer 3 looks at --------------------------------------------------------------------------------------------
+ * Numbers are looked at together first: if all their bits make a number in range, each of them is in range. If not, the cause
+ * may be a number without a meaning, or just the bits of several; then each is looked at. */
+
+/* Whether a number is at or beyond the limit in a row of a kind above this one. */
+static int any_beyond(uint32_t limit, const uint32_t *numbers, uint32_t kind, const uint32_t *kinds, uint32_t count)
 {
-    const struct row *found = last_of(rows, rows + position, address, kinds);
-    return found ? found : last_of(rows + position + 1, rows + c, address, kinds);
+    uint32_t found = 0;
+
+    for (uint32_t i = 0; i < count; i++)
+        found |= (numbers[i] >= limit ? ~0u : 0) & (kinds[i] > kind ? ~0u : 0);
+    return found != 0;
+}
+
+/* Rows: kind, the address of a row that is not empty, the link of a waiting row. */
+static int rows_in_range(const uint32_t *rows, uint32_t c, uint32_t n)
+{
+    const uint32_t *kinds = rows, *addresses = rows + c, *links = rows + 2 * c;
+
+    return bits_of(kinds, c) <= ROW_WAITING
+           && (bits_of(addresses, c) < n || !any_beyond(n, addresses, ROW_EMPTY, kinds, c))
+           && (bits_of(links, c) < c || !any_beyond(c, links, ROW_READY, kinds, c));
+}
+
+/* One buffer: of the entries that wait kind, cell and a read's row. */
+static int buffer_in_range(const uint32_t *head, const uint32_t *buffer, uint32_t k, uint32_t c, uint32_t n)
+{
+    const uint32_t *e = buffer + ENTRY * head[OLDEST], *end = buffer + ENTRY * k;
+
+    for (uint32_t count = head[COUNT]; count != 0; count--) {
+        if (e[KIND] > ENTRY_WRITE || e[CELL] >= n || (e[ROW] >= c && e[KIND] == ENTRY_READ))
+            return 0;
+        e += ENTRY;
+        if (e == end)
+            e = buffer;
+    }
+    return 1;
+}
+
+/* Buffers: oldest place and count of each, and the entries that wait. */
+static int buffers_in_range(const uint32_t *heads, uint32_t banks, const uint32_t *entries, uint32_t k, uint32_t c, uint32_t n)
+{
+    struct four bits = { heads[OLDEST], heads[COUNT], 0, 0 };
+
+    if (banks > 1)
+        bits = bits_by_four(heads, HEAD * banks);
+    const uint32_t counts = bits.b | bits.d;
+    if ((bits.a | bits.c) >= k || counts > k)
+        for (uint32_t b = 0; b < banks; b++)
+            if (heads[HEAD * b + OLDEST] >= k || heads[HEAD * b + COUNT] > k)
+                return 0;
+    if (counts == 0)
+        return 1;
+
+    /* Where three banks have many, all banks may well have: then it is shorter to take all places together. */
+    if (4 * heads[COUNT] >= k && 4 * heads[banks / 2 * HEAD + COUNT] >= k && 4 * heads[(banks - 1) * HEAD + COUNT] >= k) {
+        bits = bits_by_four(entries, ENTRY * banks * k);
+        if (bits.a <= ENTRY_WRITE && bits.b < c && bits.c < n)
+            return 1;
+    }
+    /* Most banks have none as a rule, so four are gone through in a turn. */
+    const uint32_t *h = heads, *end = heads + HEAD * banks, *fours = heads + HEAD * (banks & ~3u), size = ENTRY * k;
+    for (; h != fours; h += 4 * HEAD, entries += 4 * size)
+        if ((h[COUNT] && !buffer_in_range(h, entries, k, c, n))
+            || (h[HEAD + COUNT] && !buffer_in_range(h + HEAD, entries + size, k, c, n))
+            || (h[2 * HEAD + COUNT] && !buffer_in_range(h + 2 * HEAD, entries + 2 * size, k, c, n))
+            || (h[3 * HEAD + COUNT] && !buffer_in_range(h + 3 * HEAD, entries + 3 * size, k, c, n)))
+            return 0;
+    for (; h != end; h += HEAD, entries += size)
+        if (!buffer_in_range(h, entries, k, c, n))
+            return 0;
+    return 1;
+}
+
+/* State, rows and buffers: whether each number is in the range its meaning allows. */
+static int state_in_range(const ridkostan_setup *s, ridkostan_state state, const uint32_t *rows, const uint32_t *entries,
+                          const uint32_t *heads)
+{
+    const uint32_t n = 1u << s->a, banks = 1u << s->s;
+
+    return state.stopped <= 1 && state.turn < s->m && state.position < s->c && rows_in_range(rows, s->c, n)
+           && buffers_in_range(heads, banks, entries, s->k, s->c, n);
+}
+
+/* ---- One cycle ------------------------------------------------------------------------------------------------------ */
+
+/* Fills the row at a place. */
+static inline void fill(uint32_t *rows, uint32_t c, uint32_t place, uint32_t kind, uint32_t address, uint32_t link,
+                        uint32_t word)
+{
+    rows[place] = kind;
+    rows[c + place] = address;
+    rows[2 * c + place] = link;
+    rows[3 * c + place] = word;
+}
+
+/* Gives the word to those rows from first up to end that wait on the row at place. */
+static void give(uint32_t *rows, uint32_t c, uint32_t first, uint32_t end, uint32_t place, uint32_t word)
+{
+    for (uint32_t i = first; i < end; i++)
+        if (rows[2 * c + i] == place && rows[i] == ROW_WAITING)
+            fill(rows, c, i, ROW_READY, rows[c + i], 0, word);
+}
+
+/* Service of a read entry: its word goes to its row and to every row waiting on that row. */
+static void hand_out(uint32_t *rows, uint32_t c, uint32_t place, uint32_t word)
+{
+    const uint32_t *links = rows + 2 * c;
+    const uint32_t whole = c - c % BLOCK;
+
+    if (rows[place] == ROW_WAITING)
+        fill(rows, c, place, ROW_READY, rows[c + place], 0, word);
+    for (const uint32_t *at = links + whole; (at = last_block_with(place, links, at)) != NULL; )
+        give(rows, c, (uint32_t)(at - links), (uint32_t)(at - links) + BLOCK, place, word);
+    give(rows, c, whole, c, place, word);
+}
+
+/* Service: each bank whose turn it is takes the oldest entry of its buffer, if any. */
+static void serve(const ridkostan_setup *s, uint32_t turn, uint32_t *memory, uint32_t *rows,
+                  const uint32_t *entries, uint32_t *heads)
+{
+    const uint32_t banks = 1u << s->s;
+
+    for (uint32_t b = turn; b < banks; b += s->m) {
+        uint32_t *head = heads + HEAD * b;
+        if (head[COUNT] == 0)
+            continue;
+        const uint32_t *e = entries + ENTRY * (b * s->k + head[OLDEST]);
+        if (e[KIND] == ENTRY_WRITE)
+            memory[e[CELL]] = e[WORD];
+        else
+            hand_out(rows, s->c, e[ROW], memory[e[CELL]]);
+        head[OLDEST] = after(head[OLDEST], s->k);
+        head[COUNT]--;
+    }
+}
+
+/* Delivery: what leaves of the row filled at t - delta, by its kind and word. */
+static void deliver(uint32_t kind, uint32_t word, ridkostan_reply *reply)
+{
+    if (kind == ROW_READY) {
+        reply->delivery = RIDKOSTAN_WORD;
+        reply->word = word;
+    } else if (kind == ROW_WAITING) {
+        reply->delivery = RIDKOSTAN_UNREADY;
+    }
+}
+
+/* The last row from first up to end that is of the address and of one of the kinds (a bit for each), or c. */
+static uint32_t last_of(const uint32_t *rows, uint32_t c, uint32_t first, uint32_t end, uint32_t address, uint32_t kinds)
+{
+    while (end != first) {
+        end--;
+        if (rows[c + end] == address && (kinds >> rows[end]) & 1)
+            return end;
+    }
+    return c;
+}
+
+/* The same for whole blocks: only the rows of a block that has the address are looked at. */
+static uint32_t last_in_blocks(const uint32_t *rows, uint32_t c, uint32_t first, uint32_t end, uint32_t address,
+                               uint32_t kinds)
+{
+    const uint32_t *addresses = rows + c;
+
+    for (const uint32_t *at = addresses + end; (at = last_block_with(address, addresses + first, at)) != NULL; ) {
+        const uint32_t i = (uint32_t)(at - addresses), found = last_of(rows, c, i, i + BLOCK, address, kinds);
+        if (found != c)
+            return found;
+    }
+    return c;
+}
+
+/* Lookup: the newest row of the address and the kinds among the c - 1 rows other than the one at position, or c. The newest
+ * are those before position, and then the last ones of the table. */
+static uint32_t newest(const uint32_t *rows, uint32_t c, uint32_t position, uint32_t address, uint32_t kinds)
+{
+    const uint32_t *addresses = rows + c;
+    const uint32_t first = position - position % BLOCK, end = least(first + BLOCK, c), whole = c - c % BLOCK;
+    const int near = times(address, addresses + first, end - first) > (addresses[position] == address);
+    uint32_t found = c;
+
+    if (near)
+        found = last_of(rows, c, first, position, address, kinds);
+    if (found == c)
+        found = last_in_blocks(rows, c, 0, first, address, kinds);
+    if (found == c && end <= whole) {
+        if (times(address, addresses + whole, c - whole))
+            found = last_of(rows, c, whole, c, address, kinds);
+        if (found == c)
+            found = last_in_blocks(rows, c, end, whole, address, kinds);
+    }
+    if (found == c && near)
+        found = last_of(rows, c, position + 1, end, address, kinds);
+    return found;
 }
 
 /* Placing: puts the entry behind the others of its bank and tells whether there was a place. */
-static int place_entry(const ridkostan_setup *s, struct entry entry, struct entry *entries, struct head *heads)
+static int place_entry(const ridkostan_setup *s, uint32_t kind, uint32_t row, uint32_t cell, uint32_t word, uint32_t *entries,
+                       uint32_t *heads)
 {
-    const uint32_t bank = entry.cell & ((1u << s->s) - 1);
-    struct head *h = &heads[bank];
-    uint32_t i = h->oldest + h->count;
+    const uint32_t bank = cell & ((1u << s->s) - 1);
+    uint32_t *head = heads + HEAD * bank, i = head[OLDEST] + head[COUNT];
 
-    if (h->count == s->k)
+    if (head[COUNT] == s->k)
         return 0;
     if (i >= s->k)
         i -= s->k;
-    entries[bank * s->k + i] = entry;
-    h->count++;
+    uint32_t *e = entries + ENTRY * (bank * s->k + i);
+    e[KIND] = kind;
+    e[ROW] = row;
+    e[CELL] = cell;
+    e[WORD] = word;
+    head[COUNT]++;
     return 1;
 }
 
 /* Retirement: a merging write that no newer live write replaces is placed; answers 0, or 6 where its buffer holds K. */
-static uint32_t retire(const ridkostan_setup *s, uint32_t position, const struct row *rows, struct entry *entries,
-                       struct head *heads)
+static uint32_t retire(const ridkostan_setup *s, uint32_t position, const uint32_t *rows, uint32_t *entries, uint32_t *heads)
 {
-    const struct row *row = &rows[position];
+    const uint32_t c = s->c, address = rows[c + position], word = rows[3 * c + position];
 
-    if (s->mode == RIDKOSTAN_PLAIN || row->kind != ROW_WRITE
-        || newest(rows, s->c, position, row->address, 1u << ROW_WRITE))
+    if (s->mode == RIDKOSTAN_PLAIN || rows[position] != ROW_WRITE
+        || newest(rows, c, position, address, 1u << ROW_WRITE) != c
+        || place_entry(s, ENTRY_WRITE, 0, cell_of(s, address), word, entries, heads))
         return RIDKOSTAN_DONE;
-    const struct entry entry = { ENTRY_WRITE, 0, cell_of(s, row->address), row->word };
-    return place_entry(s, entry, entries, heads) ? RIDKOSTAN_DONE : RIDKOSTAN_STOPPING;
+    return RIDKOSTAN_STOPPING;
 }
 
 /* Arrival: the operation fills the row at position; answers 0, or 5 where it needs a place and its buffer holds K. */
-static uint32_t arrive(const ridkostan_setup *s, uint32_t position, ridkostan_operation operation, struct row *rows,
-                       struct entry *entries, struct head *heads)
+static uint32_t arrive(const ridkostan_setup *s, uint32_t position, ridkostan_operation operation, uint32_t *rows,
+                       uint32_t *entries, uint32_t *heads)
 {
-    const int merging = s->mode == RIDKOSTAN_MERGING;
-    const uint32_t address = operation.address, word = operation.word, cell = cell_of(s, address);
-    struct row *row = &rows[position];
+    const int read = operation.kind == RIDKOSTAN_READ, merging = s->mode == RIDKOSTAN_MERGING;
+    const uint32_t c = s->c, address = operation.address, word = operation.word, link = read ? position : 0;
 
-    *row = (struct row){ ROW_EMPTY, 0, 0, 0 };
-    if (operation.kind == RIDKOSTAN_IDLE)
-        return RIDKOSTAN_DONE;
-
-    if (operation.kind == RIDKOSTAN_WRITE) {
-        if (!merging && !place_entry(s, (struct entry){ ENTRY_WRITE, 0, cell, word }, entries, heads))
-            return RIDKOSTAN_DROPPED;
-        *row = (struct row){ ROW_WRITE, address, word, 0 };
+    if (operation.kind == RIDKOSTAN_IDLE) {
+        fill(rows, c, position, ROW_EMPTY, 0, 0, 0);
         return RIDKOSTAN_DONE;
     }
-
-    const struct row *live = merging ? newest(rows, s->c, position, address, ~(1u << ROW_EMPTY)) : NULL;
-    if (live && live->kind == ROW_WAITING) {
-        *row = (struct row){ ROW_WAITING, address, 0, live->link };
-    } else if (live) {
-        *row = (struct row){ ROW_READY, address, live->word, 0 };
-    } else {
-        if (!place_entry(s, (struct entry){ ENTRY_READ, position, cell, 0 }, entries, heads))
-            return RIDKOSTAN_DROPPED;
-        *row = (struct row){ ROW_WAITING, address, 0, position };
+    const uint32_t live = read && merging ? newest(rows, c, position, address, ~(1u << ROW_EMPTY)) : c;
+    if (live != c) {
+        if (rows[live] == ROW_WAITING)
+            fill(rows, c, position, ROW_WAITING, address, rows[2 * c + live], 0);
+        else
+            fill(rows, c, position, ROW_READY, address, 0, rows[3 * c + live]);
+        return RIDKOSTAN_DONE;
     }
+    if ((read || !merging)
+        && !place_entry(s, read ? ENTRY_READ : ENTRY_WRITE, link, cell_of(s, address), word, entries, heads)) {
+        fill(rows, c, position, ROW_EMPTY, 0, 0, 0);
+        return RIDKOSTAN_DROPPED;
+    }
+    fill(rows, c, position, read ? ROW_WAITING : ROW_WRITE, address, link, word);
     return RIDKOSTAN_DONE;
 }
 
@@ -296,9 +452,6 @@ ridkostan_cycled peer_cycle(ridkostan_setup setup, ridkostan_state state, ridkos
                             uint32_t *entries, size_t entries_len,
                             uint32_t *heads, size_t heads_len)
 {
-    struct row *table = (struct row *)rows;
-    struct entry *buffers = (struct entry *)entries;
-    struct head *head = (struct head *)heads;
 
     if (!is_operation(operation))
         return refused(state, RIDKOSTAN_BAD_RECORD);
@@ -306,7 +459,7 @@ ridkostan_cycled peer_cycle(ridkostan_setup setup, ridkostan_state state, ridkos
         return refused(state, RIDKOSTAN_BAD_SETUP);
     if (!lengths_exact(&setup, memory_len, rows_len, entries_len, heads_len))
         return refused(state, RIDKOSTAN_BAD_LENGTH);
-    if (!state_in_range(&setup, &state, table, buffers, head))
+    if (!state_in_range(&setup, state, rows, entries, heads))
         return refused(state, RIDKOSTAN_BAD_STATE);
     if (state.stopped)
         return refused(state, RIDKOSTAN_STOPPED);
@@ -314,16 +467,17 @@ ridkostan_cycled peer_cycle(ridkostan_setup setup, ridkostan_state state, ridkos
         return refused(state, RIDKOSTAN_BAD_ADDRESS);
 
     const uint32_t c = setup.c, delta = setup.delta, position = state.position;
+    const uint32_t leaving = position < delta ? position + c - delta : position - delta;
     ridkostan_reply reply = { .stamp = state.stamp };
 
-    serve(&setup, state.turn, memory, table, buffers, head);
-    deliver(&table[position < delta ? position + c - delta : position - delta], &reply);
-    reply.answer = retire(&setup, position, table, buffers, head);
+    serve(&setup, state.turn, memory, rows, entries, heads);
+    deliver(rows[leaving], rows[3 * c + leaving], &reply);
+    reply.answer = retire(&setup, position, rows, entries, heads);
     if (reply.answer == RIDKOSTAN_STOPPING) {
         state.stopped = 1;
         return (ridkostan_cycled){ state, reply };
     }
-    reply.answer = arrive(&setup, position, operation, table, buffers, head);
+    reply.answer = arrive(&setup, position, operation, rows, entries, heads);
 
     state.stamp++;
     state.turn = after(state.turn, setup.m);
@@ -338,18 +492,17 @@ ridkostan_told peer_waiting(ridkostan_setup setup, ridkostan_state state, uint32
                             const uint32_t *entries, size_t entries_len,
                             const uint32_t *heads, size_t heads_len)
 {
-    const struct head *head = (const struct head *)heads;
 
     (void)memory;
     if (!complete(&setup))
         return (ridkostan_told){ RIDKOSTAN_BAD_SETUP, 0 };
     if (!lengths_exact(&setup, memory_len, rows_len, entries_len, heads_len))
         return (ridkostan_told){ RIDKOSTAN_BAD_LENGTH, 0 };
-    if (!state_in_range(&setup, &state, (const struct row *)rows, (const struct entry *)entries, head))
+    if (!state_in_range(&setup, state, rows, entries, heads))
         return (ridkostan_told){ RIDKOSTAN_BAD_STATE, 0 };
     if (bank >> setup.s)
         return (ridkostan_told){ RIDKOSTAN_BAD_ADDRESS, 0 };
-    return (ridkostan_told){ RIDKOSTAN_DONE, head[bank].count };
+    return (ridkostan_told){ RIDKOSTAN_DONE, heads[HEAD * bank + COUNT] };
 }
 
 /* ---- Records -------------------------------------------------------------------------------------------------------- */

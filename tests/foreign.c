@@ -7,9 +7,10 @@
  * on, until CALLS calls were made. What is found wrong is printed with the seed of its group; `foreign 1 THAT-SEED` makes
  * that group alone.
  *
- * Every room is lent so that its end, or its beginning, touches pages that cannot be accessed. An access there is reported
- * with its seed like any other failure. The test knows what it made bad for a call, so it also knows which refusal is due,
- * and it sees that a refusal leaves everything as it was.
+ * Most rooms are lent so that their end, or their beginning, touches pages that cannot be accessed. An access there is
+ * reported with its seed like any other failure. Some rooms stand a little off, so that they begin at places of all kinds, and
+ * have marks on both sides. The test knows what it made bad for a call, so it also knows which refusal is due, and it sees
+ * that a refusal leaves everything as it was.
  *
  * The last line is `N passed, M failed`, over the calls and over the answers that had to be seen: each answer of each call
  * has to come up often enough, else too little was tried. That is asked of runs of 100,000 calls and more. */
@@ -120,7 +121,7 @@ static uint32_t *vast;
 
 static struct pages guarded(size_t bytes)
 {
-    const size_t inner = (bytes + BESIDE + GUARD - 1) / GUARD * GUARD;
+    const size_t inner = (bytes + 2 * BESIDE + GUARD - 1) / GUARD * GUARD;
     uint8_t *at = mmap(NULL, inner + 3 * GUARD, PROT_NONE, MAP_PRIVATE | MAP_ANONYMOUS, -1, 0);
 
     if (at == MAP_FAILED) {
@@ -147,25 +148,30 @@ static void make_pages(void)
     vast = at == MAP_FAILED ? NULL : at;
 }
 
-/* A room with these bytes that touches the upper guard or the lower one, and marks on its other side. */
-static void *placed(struct pages pages, const void *bytes, size_t length, int upper)
+/* A room with these bytes at the upper guard or the lower one, touching it or some bytes off, and marks beside it. */
+static void *placed(struct pages pages, const void *bytes, size_t length, int upper, size_t off)
 {
-    uint8_t *room = upper ? pages.high - length : pages.low;
+    uint8_t *room = upper ? pages.high - length - off : pages.low + off;
 
     if (length == 0)
         return upper ? room : NULL;
+    const size_t before = upper ? BESIDE : off, behind = upper ? off : BESIDE;
+    memset(room - before, 0xa5, before);
     memcpy(room, bytes, length);
-    memset(upper ? room - BESIDE : room + length, 0xa5, BESIDE);
+    memset(room + length, 0xa5, behind);
     return room;
 }
 
 /* Whether the marks beside a room stand. */
-static int marks_stand(const uint8_t *room, size_t length, int upper)
+static int marks_stand(const uint8_t *room, size_t length, int upper, size_t off)
 {
-    const uint8_t *beside = upper ? room - BESIDE : room + length;
+    const size_t before = upper ? BESIDE : off, behind = upper ? off : BESIDE;
 
-    for (int i = 0; length != 0 && i < BESIDE; i++)
-        if (beside[i] != 0xa5)
+    for (size_t i = 0; length != 0 && i < before; i++)
+        if ((room - before)[i] != 0xa5)
+            return 0;
+    for (size_t i = 0; length != 0 && i < behind; i++)
+        if ((room + length)[i] != 0xa5)
             return 0;
     return 1;
 }
@@ -201,7 +207,7 @@ static int call, due, wrong;
 /* What each side is lent. */
 static uint32_t *lent[SIDES][ROOMS];
 static uint8_t *lent_record[SIDES];
-static size_t lent_length[ROOMS], record_length;
+static size_t lent_length[ROOMS], record_length, off[ROOMS];
 static int upper[ROOMS], record_upper;
 
 #define LENT(side)                                                                                                          \
@@ -312,8 +318,9 @@ static ridkostan_setup given, full;
 static uint32_t words, banks;
 static size_t exact[ROOMS];
 
-/* The sizes of a group. Most are tiny, so that every place of every room is met; some have wide addresses, and some stand at
- * the upper ends. Draws a, s, m and K, and returns the most rows. */
+/* The sizes of a group. Most are tiny, so that every place of every room is met; some have wide addresses, some have tables
+ * and buffers that are gone through by blocks, and some stand at the upper ends. Draws a, s, m and K, and returns the most
+ * rows. */
 static uint32_t draw_sizes(void)
 {
     const uint32_t way = below(100);
@@ -334,6 +341,12 @@ static uint32_t draw_sizes(void)
         m = between(1, 64);
         k = between(1, 16);
         most = 1024;
+    } else if (way >= 84) {
+        a = between(2, 12);
+        s = below(7);
+        k = chance(20) ? between(32, 128) : between(1, 16);
+        m = k > 16 ? 1 : between(1, 4);
+        most = 600;
     }
     full.a = (uint8_t)a;
     full.s = (uint8_t)(s < a ? s : a);
@@ -352,6 +365,10 @@ static void draw_setup(void)
     full.mode = (uint8_t)below(2);
     full.delta = (uint16_t)(chance(50) ? least : chance(20) ? most : between(least, most));
     full.c = (uint16_t)(chance(40) ? full.delta : chance(20) ? most : between(full.delta, most));
+    if (most > 64 && chance(50)) { /* whole blocks of rows, or one row more or less */
+        const uint32_t c = 64 * between(1, most / 64) + below(3) - 1;
+        full.c = (uint16_t)(c < full.delta ? full.delta : c > most ? most : c);
+    }
     full.u = below(words) | 1;
     full.v = chance(20) ? words - 1 : below(words);
     given = full;
@@ -436,10 +453,48 @@ static uint32_t draw_address(void)
     return chance(70) ? often[below(5)] : below(words);
 }
 
+/* How many of 100 numbers that have no meaning where they stand hold anything. With none, a number that is made bad stands
+ * alone among good ones; with few, a look at all numbers together finds a large one here and there, which must not count. */
+static uint32_t untidy;
+
+/* A row that many entries and links name; and whether the links to it, and the address often[0], stand in few rows only, so
+ * that services and lookups go far. */
+static uint32_t sought;
+static int seldom;
+
 /* A number that has no meaning where it stands: what a run leaves there, or anything. */
 static uint32_t unseen(uint32_t usual)
 {
-    return chance(50) ? usual : any();
+    return chance(untidy) ? any() : usual;
+}
+
+/* A row of the table, often the first or the last one of a block. */
+static uint32_t draw_row(void)
+{
+    const uint32_t i = below(full.c), edge = i - i % 16 + 15 * below(2);
+
+    return chance(50) ? i : chance(30) ? full.c - 1u : edge < full.c ? edge : i;
+}
+
+/* Row i is rows[i], rows[C + i], rows[2*C + i] and rows[3*C + i]: kind, address, link and word. */
+static uint32_t *kind_of(uint32_t i)
+{
+    return rows + i;
+}
+
+static uint32_t *address_of(uint32_t i)
+{
+    return rows + full.c + i;
+}
+
+static uint32_t *link_of(uint32_t i)
+{
+    return rows + 2 * full.c + i;
+}
+
+static uint32_t *word_of(uint32_t i)
+{
+    return rows + 3 * full.c + i;
 }
 
 /* Rows in range, as no run leaves them. */
@@ -447,30 +502,61 @@ static void draw_rows(void)
 {
     for (uint32_t i = 0; i < full.c; i++) {
         const uint32_t kind = (uint32_t)("0011112233"[below(10)] - '0');
-        rows[4 * i] = kind;
-        rows[4 * i + 1] = kind == 0 ? unseen(0) : draw_address();
-        rows[4 * i + 2] = kind == 0 || kind == 3 ? unseen(0) : any();
-        rows[4 * i + 3] = kind != 3 ? unseen(0) : chance(40) ? i : below(full.c);
+        *kind_of(i) = kind;
+        *address_of(i) = kind == 0 ? unseen(0) : draw_address();
+        *link_of(i) = kind != 3 ? unseen(0) : chance(40) ? i : chance(20) ? sought : below(full.c);
+        *word_of(i) = kind == 0 || kind == 3 ? unseen(0) : any();
+        if (seldom && *address_of(i) == often[0])
+            *address_of(i) ^= 1;
+        if (seldom && *link_of(i) == sought)
+            *link_of(i) = i;
+    }
+    for (uint32_t few = seldom ? between(1, 3) : 0; few > 0; few--) {
+        const uint32_t i = draw_row();
+        *kind_of(i) = between(1, 3);
+        *address_of(i) = often[0];
+        *link_of(i) = *kind_of(i) == 3 ? sought : unseen(0);
     }
 }
 
-/* Buffers in range; cells may be those of other banks. Places where nothing waits hold anything. */
+/* Buffers in range; cells may be those of other banks. Places where nothing waits hold anything. The counts are of all
+ * kinds, or every place has a waiting entry, or hardly one has. */
 static void draw_buffers(void)
 {
+    const uint32_t way = below(10);
+
     for (uint32_t b = 0; b < banks; b++) {
-        const uint32_t oldest = below(full.k), count = chance(35) ? full.k : chance(30) ? 0 : below(full.k + 1u);
+        const uint32_t oldest = below(full.k), some = chance(35) ? full.k : chance(30) ? 0 : below(full.k + 1u);
+        const uint32_t count = way < 6 ? some : way < 8 ? full.k : way == 8 && chance(10) ? 1 : 0;
         heads[2 * b] = oldest;
         heads[2 * b + 1] = count;
         for (uint32_t i = 0; i < full.k; i++) {
             uint32_t *entry = entries + 4 * (b * full.k + (oldest + i) % full.k);
             const uint32_t kind = below(2);
-            const int waits = i < count || chance(50);
+            const int waits = i < count || !chance(untidy);
             entry[0] = waits ? kind : any();
-            entry[1] = waits && kind == 0 ? below(full.c) : unseen(0);
+            entry[1] = !waits || kind != 0 ? unseen(0) : chance(30) ? sought : below(full.c);
             entry[2] = waits ? below(words) : any();
             entry[3] = kind == 0 ? unseen(0) : any();
         }
     }
+}
+
+/* Makes one number large that has no meaning where it stands: of the row i, of an entry that does not wait, or the row of a
+ * write that waits. */
+static void litter(uint32_t i)
+{
+    const uint32_t b = below(banks), oldest = heads[2 * b], count = heads[2 * b + 1];
+    uint32_t *entry = entries + 4 * (b * full.k + (oldest + full.k - 1) % full.k);
+
+    if (chance(40) && count < full.k)
+        entry[below(4)] = beyond(words);
+    else if (chance(40) && count > 0 && entries[4 * (b * full.k + oldest)] == 1)
+        entries[4 * (b * full.k + oldest) + 1] = beyond(full.c);
+    else if (*kind_of(i) == 0 && chance(60))
+        *address_of(i) = beyond(words);
+    else if (*kind_of(i) != 3)
+        *link_of(i) = beyond(full.c);
 }
 
 /* A state in range and rooms in range, or (seldom) numbers of which nothing is known. */
@@ -488,8 +574,13 @@ static void draw_contents(void)
     state.position = chance(30) ? full.c - 1u : below(full.c);
     state.stopped = 0;
     in_range = 1;
+    untidy = chance(50) ? 50 : chance(70) ? 0 : between(1, 3);
+    seldom = chance(30);
+    sought = draw_row();
     draw_rows();
     draw_buffers();
+    if (chance(30))
+        litter(draw_row());
     if (chance(94))
         return;
 
@@ -504,20 +595,22 @@ static void draw_contents(void)
 }
 
 /* Where a room was made bad for a call, and the numbers to be put back there after it. */
-static uint32_t *spoiled, spared[4];
+static struct {
+    uint32_t *at, number;
+} spoiled[3];
+static int spoils;
 
-static uint32_t *spoil(uint32_t *at)
+static void spoil(uint32_t *at, uint32_t number)
 {
-    spoiled = at;
-    memcpy(spared, at, sizeof spared);
-    return at;
+    spoiled[spoils].at = at;
+    spoiled[spoils++].number = *at;
+    *at = number;
 }
 
 static void put_back(void)
 {
-    if (spoiled)
-        memcpy(spoiled, spared, sizeof spared);
-    spoiled = NULL;
+    for (; spoils > 0; spoils--)
+        *spoiled[spoils - 1].at = spoiled[spoils - 1].number;
 }
 
 /* Makes a number bad of an entry that waits at bank b or the next one where one does; else a bank's oldest place. */
@@ -527,20 +620,20 @@ static void spoil_entry(uint32_t b)
         b++;
     const uint32_t oldest = heads[2 * b], count = heads[2 * b + 1];
     if (count == 0) {
-        spoil(heads + 2 * b)[0] = beyond(full.k);
+        spoil(heads + 2 * b, beyond(full.k));
         return;
     }
-    uint32_t *entry = spoil(entries + 4 * (b * full.k + (oldest + below(count)) % full.k));
+    uint32_t *entry = entries + 4 * (b * full.k + (oldest + below(count)) % full.k);
     switch (below(3)) {
     case 0:
-        entry[0] = beyond(2);
+        spoil(entry, beyond(2));
         break;
     case 1:
-        entry[0] = 0;
-        entry[1] = beyond(full.c);
+        spoil(entry, 0);
+        spoil(entry + 1, beyond(full.c));
         break;
     default:
-        entry[2] = beyond(words);
+        spoil(entry + 2, beyond(words));
         break;
     }
 }
@@ -548,7 +641,8 @@ static void spoil_entry(uint32_t b)
 /* Makes one of the numbers bad that answer 3 looks at. */
 static void spoil_one(ridkostan_state *passed_on)
 {
-    uint32_t *row = rows + 4 * below(full.c), *head = heads + 2 * below(banks);
+    const uint32_t i = draw_row();
+    uint32_t *head = heads + 2 * below(banks);
 
     switch (below(9)) {
     case 0:
@@ -561,22 +655,22 @@ static void spoil_one(ridkostan_state *passed_on)
         passed_on->stopped = beyond(2);
         break;
     case 3:
-        spoil(row)[0] = beyond(4);
+        spoil(kind_of(i), beyond(4));
         break;
     case 4:
-        spoil(row)[0] = between(1, 3);
-        row[1] = beyond(words);
+        spoil(kind_of(i), between(1, 3));
+        spoil(address_of(i), beyond(words));
         break;
     case 5:
-        spoil(row)[0] = 3;
-        row[1] = draw_address();
-        row[3] = beyond(full.c);
+        spoil(kind_of(i), 3);
+        spoil(address_of(i), draw_address());
+        spoil(link_of(i), beyond(full.c));
         break;
     case 6:
-        spoil(head)[0] = beyond(full.k);
+        spoil(head, beyond(full.k));
         break;
     case 7:
-        spoil(head)[1] = beyond(full.k + 1u);
+        spoil(head + 1, beyond(full.k + 1u));
         break;
     default:
         spoil_entry(below(banks));
@@ -589,12 +683,13 @@ static void spoil_one(ridkostan_state *passed_on)
 static ridkostan_operation draw_operation(void)
 {
     const uint32_t way = below(20);
+    const uint32_t address = seldom && chance(50) ? often[0] : draw_address();
 
     if (way < 3)
         return (ridkostan_operation){ RIDKOSTAN_IDLE, 0, 0 };
     if (way < 12)
-        return (ridkostan_operation){ RIDKOSTAN_READ, draw_address(), 0 };
-    return (ridkostan_operation){ RIDKOSTAN_WRITE, draw_address(), any() };
+        return (ridkostan_operation){ RIDKOSTAN_READ, address, 0 };
+    return (ridkostan_operation){ RIDKOSTAN_WRITE, address, any() };
 }
 
 /* What is no operation: of unknown kind, or not zero where zero is due. */
@@ -641,9 +736,10 @@ static void lend(int wrong_length)
     }
     for (int r = 0; r < ROOMS; r++) {
         upper[r] = chance(50);
+        off[r] = chance(25) ? sizeof(uint32_t) * between(1, 3) : 0;
         for (int side = 0; side < SIDES; side++)
             lent[side][r] = r == too_long ? vast : placed(room_pages[side][r], images[r].numbers,
-                                                          lent_length[r] * sizeof(uint32_t), upper[r]);
+                                                          lent_length[r] * sizeof(uint32_t), upper[r], off[r]);
     }
 }
 
@@ -657,7 +753,8 @@ static void compare_rooms(int memory_stays, int rows_stay, int entries_stay, int
         const size_t bytes = lent_length[r] * sizeof *library;
         if (library == vast || bytes == 0)
             continue;
-        if (!marks_stand((const uint8_t *)library, bytes, upper[r]) || !marks_stand((const uint8_t *)peer, bytes, upper[r])) {
+        if (!marks_stand((const uint8_t *)library, bytes, upper[r], off[r])
+            || !marks_stand((const uint8_t *)peer, bytes, upper[r], off[r])) {
             say_wrong();
             printf("there is a write beside %s\n", images[r].name);
         }
@@ -685,13 +782,13 @@ static void lend_record(size_t length)
     record_length = length;
     record_upper = chance(50);
     for (int side = 0; side < SIDES; side++)
-        lent_record[side] = placed(record_pages[side], record, length, record_upper);
+        lent_record[side] = placed(record_pages[side], record, length, record_upper, 0);
 }
 
 static void compare_records(int stays)
 {
     for (int side = 0; side < SIDES; side++)
-        if (!marks_stand(lent_record[side], record_length, record_upper)) {
+        if (!marks_stand(lent_record[side], record_length, record_upper, 0)) {
             say_wrong();
             puts("there is a write beside the record");
         }
@@ -1061,7 +1158,7 @@ static void try_call(void)
 static void try_group(void)
 {
     drawn = group_seed;
-    spoiled = NULL;
+    spoils = 0;
     draw_setup();
     draw_contents();
     const unsigned group_calls = between(4, 16);

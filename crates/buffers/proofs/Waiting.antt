@@ -4,6 +4,7 @@ use mathlib.Core.Bool.{Bool, true, false, not, _&&_, _||_}
 use mathlib.Core.Logic.{⊎-elim}
 use mathlib.Core.List.{List}
 use mathlib.Core.Path.{_≡_, refl, sym, ap, _∙_}
+use native.Mathlib.Nat.{eq-or-lt-of-le}
 use native.Mathlib.Omega.{arith}
 use lib.Dec.{leb, ltb, eqb}
 use borrow.Author.Tests.{le-leb, lt-leb, lt-ltb, le-ltb}
@@ -13,6 +14,7 @@ use Rattle.setup.specs.declared.Setup.{Setup}
 use Rattle.model.proofs.Rings.{onward-either, onward-none, onward-below, part-within}
 use Rattle.model.proofs.Range.{head-ok, head-oldest, head-count, buffer-ok, buffer-head, buffers-each}
 use Rattle.model.proofs.Range as range
+use Rattle.model.proofs.Tests.{below-or-not}
 use Rattle.flat.specs.Flat.{pairsBelow, pairsTold, foursBelow}
 use Rattle.flat.specs.declared.Told.{Told}
 use Rattle.flat.proofs.Flat.{pairs-each, pairs-every, fours-each}
@@ -22,7 +24,7 @@ use Rattle.model.specs.declared.Entry.{Entry}
 use Rattle.flat.proofs.Below.{said-no, below-more, below-out, below-all}
 use lib.ListN.{length}
 use Rattle.setup.proofs.Ranges.{banks-least}
-use Rattle.buffers.specs.Bank.{Room, HeadsIn}
+use Rattle.buffers.specs.Bank.{Room, HeadsIn, Quiet}
 use Rattle.buffers.specs.Part.{partOk}
 use Rattle.buffers.proofs.Parts.{four-part}
 
@@ -64,15 +66,41 @@ module _ (n c k oldest : ℕ) (part : List ℕ) where
   part-all = below-all (λ (j : ℕ). entryOk n c (entryAt part (onward k oldest j))) (partOk n c k oldest part) (λ j. refl)
 
 ------------------------------------------------------------------------
+-- Banks where nothing waits
+
+pub quiet-none : (heads : List ℕ) (b : ℕ) → Quiet heads b b
+quiet-none heads b i h l = absurd (omega arith)
+
+pub quiet-next : (heads : List ℕ) (b i n : ℕ) → Quiet heads b i → n ≡ countOf heads i → n ≡ 0 → Quiet heads b (i + 1)
+quiet-next heads b i n z e h j x y = ⊎-elim (λ (q : j ≡ i). rw q (sym e ∙ h)) (λ (q : j < i). z j x q) (eq-or-lt-of-le {n = j} {m = i} (omega arith))
+
+------------------------------------------------------------------------
 -- The buffers of the k banks, from the first on, where every head is in range. t says whether what waits at bank b is
 
 module _ (s : Setup) (q : Buffers) (g : HeadsIn s q) where
   waited : (b : ℕ) (t : Bool) → b < banksOf s → t ≡ entriesOk s q b (countOf (q .heads) b) → bufferOk s q b ≡ t
   waited b t l e = rw (g .heads-ok b l, e)
 
-  pub buffers-more : (b k : ℕ) (t : Bool) → k ≡ banksOf s → buffersOk s q b ≡ true → b < k → t ≡ entriesOk s q b (countOf (q .heads) b) → t ≡ true → buffersOk s q (b + 1) ≡ true
+  buffers-more : (b k : ℕ) (t : Bool) → k ≡ banksOf s → buffersOk s q b ≡ true → b < k → t ≡ entriesOk s q b (countOf (q .heads) b) → t ≡ true → buffersOk s q (b + 1) ≡ true
   unfolding buffersOk
   buffers-more b k t z h l e x = below-more (bufferOk s q) (buffersOk s q) (λ j. refl) b h (waited b t (omega arith) e ∙ x)
+
+  -- and the banks up to r, where nothing waits
+  quiet : (b r : ℕ) → Quiet (q .heads) b r → r ≤ banksOf s → (i : ℕ) → b ≤ i → i < r → bufferOk s q i ≡ true
+  unfolding entriesOk
+  quiet b r z l i h j = rw (g .heads-ok i (omega arith), z i h j)
+
+  pub buffers-quiet : (b r k : ℕ) → k ≡ banksOf s → buffersOk s q b ≡ true → Quiet (q .heads) b r → r ≤ k → buffersOk s q r ≡ true
+  buffers-quiet b r k e h z l =
+      range.buffers-all s q r (λ i j. ⊎-elim (λ x. buffers-each s q b h i x) (λ x. quiet b r z (omega arith) i x j) (below-or-not i b))
+
+  pub buffers-first : (r k : ℕ) → k ≡ banksOf s → Quiet (q .heads) 0 r → r ≤ k → buffersOk s q r ≡ true
+  unfolding buffersOk
+  buffers-first r k e z l = buffers-quiet 0 r k e refl z l
+
+  pub buffers-on : (b r k : ℕ) (t : Bool) → k ≡ banksOf s → buffersOk s q b ≡ true → b < k → t ≡ entriesOk s q b (countOf (q .heads) b) → t ≡ true
+      → Quiet (q .heads) (b + 1) r → r ≤ k → buffersOk s q r ≡ true
+  buffers-on b r k t e h l x y z m = buffers-quiet (b + 1) r k e (buffers-more b k t e h l x y) z m
 
   pub buffers-out : (b k : ℕ) (t : Bool) → k ≡ banksOf s → b < k → t ≡ entriesOk s q b (countOf (q .heads) b) → t ≡ false → false ≡ buffersOk s q (banksOf s)
   unfolding buffersOk

@@ -31,3 +31,7 @@ pub record Buffer (s : Setup) (b : ℕ) (q : Buffers) : Type 0 where
 pub record HeadsIn (s : Setup) (q : Buffers) : Type 0 where
   pub room : Room s q
   pub heads-ok : (b : ℕ) → b < banksOf s → headOk s (q .heads) b ≡ true
+
+-- nothing waits at the banks from one up to another
+abbrev pub Quiet : List ℕ → ℕ → ℕ → Type 0
+Quiet heads from to = (b : ℕ) → from ≤ b → b < to → countOf heads b ≡ 0

@@ -10,7 +10,7 @@ ghost use Rattle.model.specs.Lent.{buffersIn, entryAt, putEntry, oldestOf, coun
 ghost use Rattle.model.specs.Cycle.{oldestEntry, popped, placedAt, placed};
 ghost use Rattle.model.specs.Range.{entryOk, entriesOk, buffersOk};
 ghost use Rattle.buffers.specs.Part.{partOk};
-ghost use Rattle.buffers.specs.Bank.{Room, Head, Buffer, HeadsIn};
+ghost use Rattle.buffers.specs.Bank.{Room, Head, Buffer, HeadsIn, Quiet};
 use map::Cell;
 use model::Entry;
 use places::next;
@@ -192,15 +192,30 @@ fn waiting_ok(s: Setup, n: u32, b: usize, entries: &[u32], heads: &[u32]) -> boo
     part_ok(&entries[from..to], k, oldest, count, n, s.c as u32)
 }
 
+// The first bank from b on where something waits, or the number of banks. At most banks nothing does as a rule.
+fn next_waiting(heads: &[u32], b: usize, banks: usize) -> usize
+    requires { ⌜ (length (now heads) ≡ 2 * banks) × (b ≤ banks) ⌝ }
+    ensures { λ r. ⌜ Quiet (now (heads .entry)) b r × (b ≤ r) × (r ≤ banks) ⌝ }
+{
+    let mut i = b;
+    while i < banks {
+        if count_at(heads, i) != 0 {
+            return i;
+        }
+        i += 1;
+    }
+    i
+}
+
 // Of each of the B buffers, whose heads are in range, the entries that wait; of n words.
 fn each_ok(s: Setup, n: u32, banks: usize, entries: &[u32], heads: &[u32]) -> bool
     requires { ⌜ HeadsIn s (buffersIn (now entries) (now heads)) × (n ≡ wordsOf s) × (banks ≡ banksOf s) ⌝ }
     ensures { λ r. ⌜ r ≡ buffersOk s (buffersIn (now (entries .entry)) (now (heads .entry))) (banksOf s) ⌝ }
 {
-    let mut b: usize = 0;
+    let mut b = next_waiting(heads, 0, banks);
     while b < banks {
         if waiting_ok(s, n, b, entries, heads) {
-            b += 1;
+            b = next_waiting(heads, b + 1, banks);
         } else {
             return false;
         }

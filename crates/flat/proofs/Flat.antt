@@ -4,16 +4,16 @@ use native.Mathlib.Nat.{le-trans, not-suc-le-zero, le-of-suc-le-suc, eq-or-lt-of
 use native.Mathlib.Numerals.{add-one}
 use native.Mathlib.Omega.{arith}
 use mathlib.Core.Path.{_≡_, refl, sym, ap, subst, _∙_}
-use mathlib.Core.Bool.{Bool, true, false, _&&_, _||_}
+use mathlib.Core.Bool.{Bool, true, false, _&&_}
 use mathlib.Core.Logic.{⊎-elim}
 use mathlib.Core.List.{List, [], _∷_, _++_}
-use lib.Bits.{bitOr, or-add-and, and-le-l, and-le-r}
+use lib.Bits.{bitOr, or-add-and, or-zero-l, and-le-l, and-le-r}
 use lib.Dec.{ltb, eqb}
 use lib.ListN.{getD, length, take}
 use lib.Seq.{take-suc, take-all}
 use borrow.Author.Count.{below-more}
-use borrow.Author.Tests.{lt-ltb, le-ltb, ltb-true, eq-eqb}
-use Rattle.flat.specs.Flat.{among, allBelow, pairsBelow, pairsTold, foursBelow, UpTo, Apart, TwoTogether, ThreeTogether}
+use borrow.Author.Tests.{lt-ltb, le-ltb, ltb-true, eq-eqb, eqb-true}
+use Rattle.flat.specs.Flat.{oneIf, times, allBelow, pairsBelow, pairsTold, foursBelow, UpTo, Apart, TwoTogether, ThreeTogether}
 use Rattle.flat.specs.declared.Told.{Told}
 use Rattle.flat.proofs.Below as tests
 use Rattle.flat.proofs.Below.{said-no, and-yes, below-out, below-all, each-below, all-below}
@@ -57,120 +57,132 @@ module _ (r : ℕ) (l : List ℕ) where
       (λ k h. let e : n + k ≡ 0 + (n + k) = omega arith in subst (λ (z : ℕ). getD l z 0 ≤ s) e (v k h))
 
 -- a step apart
-module _ (r : ℕ) (l : List ℕ) (at step n : ℕ) where
-  pub apart-one : Apart r l at step n → Apart (bitOr r (getD l (at + n * step) 0)) l at step (n + 1)
-  apart-one u = or-one (λ (k : ℕ). getD l (at + k * step) 0) r n u
+pub apart-none : (at step : ℕ) (l : List ℕ) → Apart at step 0 l 0
+apart-none at step l = record { most = λ k h. absurd (not-suc-le-zero h); zeros = λ z. refl }
 
-  apart-more : (s m : ℕ) → Apart r l at step n → Apart s l (at + n * step) step m → Apart (bitOr r s) l at step (n + m)
-  apart-more s m u v =
-      or-more (λ (k : ℕ). getD l (at + k * step) 0) r n u s m
-      (λ k h.
-      let d : (n + k) * step ≡ n * step + k * step = add-mul n k step in
-      let e : at + n * step + k * step ≡ at + (n + k) * step = omega arith in
-      subst (λ (z : ℕ). getD l z 0 ≤ s) e (v k h))
+or-zeros : (r s : ℕ) → r ≡ 0 → s ≡ 0 → bitOr r s ≡ 0
+or-zeros r s p q = rw (p, q) (or-zero-l 0)
 
-  -- with the number at place i, and with m numbers from place i on
-  pub apart-next : (i : ℕ) → i ≡ at + n * step → Apart r l at step n → Apart (bitOr r (getD l i 0)) l at step (n + 1)
-  apart-next i e u = rw e (apart-one u)
+module _ (at step n : ℕ) (l : List ℕ) (r : ℕ) (u : Apart at step n l r) where
+  -- with one number more, which stands at place i
+  pub apart-next : (i : ℕ) → i ≡ at + n * step → Apart at step (n + 1) l (bitOr r (getD l i 0))
+  apart-next i e =
+      record {
+        most = rw e (or-one (λ (k : ℕ). getD l (at + k * step) 0) r n (u .most));
+        zeros = λ z. or-zeros r (getD l i 0) (u .zeros (λ k h. z k (omega arith))) (rw e (z n (omega arith)));
+      }
 
-  pub apart-on : (i s m : ℕ) → i ≡ at + n * step → Apart r l at step n → Apart s l i step m → Apart (bitOr r s) l at step (n + m)
-  apart-on i s m e u v = apart-more s m u (subst (λ (z : ℕ). Apart s l z step m) e v)
+  pub apart-one : Apart at step (n + 1) l (bitOr r (getD l (at + n * step) 0))
+  apart-one = apart-next (at + n * step) refl
+
+  -- with m numbers more, from place i on
+  pub apart-on : (i s m : ℕ) → i ≡ at + n * step → Apart i step m l s → Apart at step (n + m) l (bitOr r s)
+  apart-on i s m e v =
+      record {
+        most = or-more (λ (k : ℕ). getD l (at + k * step) 0) r n (u .most) s m (λ k h. subst (λ (z : ℕ). getD l z 0 ≤ s) (place k) (v .most k h));
+        zeros =
+            λ z. or-zeros r s (u .zeros (λ k h. z k (omega arith)))
+            (v .zeros (λ k h. ap (λ (q : ℕ). getD l q 0) (place k) ∙ z (n + k) (omega arith)));
+      }
+    where
+      place : (k : ℕ) → i + k * step ≡ at + (n + k) * step
+      place k = let d : (n + k) * step ≡ n * step + k * step = add-mul n k step in omega arith
+
+pub apart-done : (at step n j : ℕ) (l : List ℕ) (r : ℕ) → n ≤ j → j ≤ n → Apart at step j l r → Apart at step n l r
+apart-done at step n j l r h g u = let e : j ≡ n = omega arith in subst (λ (z : ℕ). Apart at step z l r) e u
 
 -- how far the j-th of 16 numbers that stand a step apart is at most
 pub apart-span : (step j : ℕ) → j < 16 → j * step ≤ 15 * step
 apart-span step j h = mul-le-mul-right step (omega arith)
 
 -- pairs put together: none, with the next, with m more, all
-pub pairs-first : (l : List ℕ) (a b : ℕ) → TwoTogether 0 l a b
-pairs-first l a b = record { firsts = λ k h. absurd (not-suc-le-zero h); seconds = λ k h. absurd (not-suc-le-zero h) }
+pub pairs-first : (l : List ℕ) → TwoTogether 0 l 0 0
+pairs-first l = record { firsts = apart-none 0 2 l; seconds = apart-none 1 2 l }
 
 module _ (l : List ℕ) (n a b : ℕ) (t : TwoTogether n l a b) where
   pub pairs-one : TwoTogether (n + 1) l (bitOr a (getD l (2 * n) 0)) (bitOr b (getD l (2 * n + 1) 0))
   pairs-one =
       record {
-        firsts = apart-next a l 0 2 n (2 * n) (omega arith) (t .firsts);
-        seconds = apart-next b l 1 2 n (2 * n + 1) (omega arith) (t .seconds);
+        firsts = apart-next 0 2 n l a (t .firsts) (2 * n) (omega arith);
+        seconds = apart-next 1 2 n l b (t .seconds) (2 * n + 1) (omega arith);
       }
 
-  pub pairs-more : (m x y : ℕ) → Apart x l (2 * n) 2 m → Apart y l (2 * n + 1) 2 m → TwoTogether (n + m) l (bitOr a x) (bitOr b y)
+  pub pairs-more : (m x y : ℕ) → Apart (2 * n) 2 m l x → Apart (2 * n + 1) 2 m l y → TwoTogether (n + m) l (bitOr a x) (bitOr b y)
   pairs-more m x y ux uy =
       record {
-        firsts = apart-on a l 0 2 n (2 * n) x m (omega arith) (t .firsts) ux;
-        seconds = apart-on b l 1 2 n (2 * n + 1) y m (omega arith) (t .seconds) uy;
+        firsts = apart-on 0 2 n l a (t .firsts) (2 * n) x m (omega arith) ux;
+        seconds = apart-on 1 2 n l b (t .seconds) (2 * n + 1) y m (omega arith) uy;
       }
 
   pub pairs-end : (m : ℕ) → m ≤ n → n ≤ m → TwoTogether m l a b
   pairs-end m h g = let e : n ≡ m = omega arith in subst (λ (z : ℕ). TwoTogether z l a b) e t
 
 -- and fours
-pub fours-first : (l : List ℕ) (a b c : ℕ) → ThreeTogether 0 l a b c
-fours-first l a b c =
-    record { firsts = λ k h. absurd (not-suc-le-zero h); seconds = λ k h. absurd (not-suc-le-zero h); thirds = λ k h. absurd (not-suc-le-zero h) }
+pub fours-first : (l : List ℕ) → ThreeTogether 0 l 0 0 0
+fours-first l = record { firsts = apart-none 0 4 l; seconds = apart-none 1 4 l; thirds = apart-none 2 4 l }
 
 module _ (l : List ℕ) (n a b c : ℕ) (t : ThreeTogether n l a b c) where
   pub fours-one : ThreeTogether (n + 1) l (bitOr a (getD l (4 * n) 0)) (bitOr b (getD l (4 * n + 1) 0)) (bitOr c (getD l (4 * n + 2) 0))
   fours-one =
       record {
-        firsts = apart-next a l 0 4 n (4 * n) (omega arith) (t .firsts);
-        seconds = apart-next b l 1 4 n (4 * n + 1) (omega arith) (t .seconds);
-        thirds = apart-next c l 2 4 n (4 * n + 2) (omega arith) (t .thirds);
+        firsts = apart-next 0 4 n l a (t .firsts) (4 * n) (omega arith);
+        seconds = apart-next 1 4 n l b (t .seconds) (4 * n + 1) (omega arith);
+        thirds = apart-next 2 4 n l c (t .thirds) (4 * n + 2) (omega arith);
       }
 
-  pub fours-more : (m x y z : ℕ) → Apart x l (4 * n) 4 m → Apart y l (4 * n + 1) 4 m → Apart z l (4 * n + 2) 4 m
+  pub fours-more : (m x y z : ℕ) → Apart (4 * n) 4 m l x → Apart (4 * n + 1) 4 m l y → Apart (4 * n + 2) 4 m l z
       → ThreeTogether (n + m) l (bitOr a x) (bitOr b y) (bitOr c z)
   fours-more m x y z ux uy uz =
       record {
-        firsts = apart-on a l 0 4 n (4 * n) x m (omega arith) (t .firsts) ux;
-        seconds = apart-on b l 1 4 n (4 * n + 1) y m (omega arith) (t .seconds) uy;
-        thirds = apart-on c l 2 4 n (4 * n + 2) z m (omega arith) (t .thirds) uz;
+        firsts = apart-on 0 4 n l a (t .firsts) (4 * n) x m (omega arith) ux;
+        seconds = apart-on 1 4 n l b (t .seconds) (4 * n + 1) y m (omega arith) uy;
+        thirds = apart-on 2 4 n l c (t .thirds) (4 * n + 2) z m (omega arith) uz;
       }
 
   pub fours-end : (m : ℕ) → m ≤ n → n ≤ m → ThreeTogether m l a b c
   fours-end m h g = let e : n ≡ m = omega arith in subst (λ (z : ℕ). ThreeTogether z l a b c) e t
 
 ------------------------------------------------------------------------
--- One of the numbers: the first i are looked at, and y says what they gave
+-- How many numbers are x: the first i of n are looked at, and m is what they gave
 
-or-end : (b x : Bool) → x || b ≡ b || x
-or-end true true = refl
-or-end true false = refl
-or-end false true = refl
-or-end false false = refl
-
-or-in : (a b c : Bool) → a || (b || c) ≡ (a || b) || c
-or-in true b c = refl
-or-in false b c = refl
-
-among-end : (x y : ℕ) (l : List ℕ) → among x (l ++ (y ∷ [])) ≡ among x l || eqb y x
-unfolding among
-among-end x y [] = or-end false (eqb y x)
-among-end x y (z ∷ l) = rw (among-end x y l) (or-in (eqb z x) (among x l) (eqb y x))
+times-end : (x y : ℕ) (l : List ℕ) → times x (l ++ (y ∷ [])) ≡ times x l + oneIf (eqb y x)
+unfolding times
+times-end x y [] = omega arith
+times-end x y (z ∷ l) = rw (times-end x y l) (omega arith)
 
 module _ (x : ℕ) (l : List ℕ) where
-  pub among-none : false ≡ among x (take 0 l)
-  unfolding among
-  among-none = refl
+  pub times-none : 0 ≡ times x (take 0 l)
+  unfolding times
+  times-none = refl
 
-  pub among-next : (i n : ℕ) (y : Bool) → length l ≡ n → i < n → y ≡ among x (take i l) → y || eqb (getD l i 0) x ≡ among x (take (i + 1) l)
-  among-next i n y f h e = rw (add-one, take-suc l i 0 (omega arith), among-end x (getD l i 0) (take i l), e)
+  pub times-next : (i n m r : ℕ) → length l ≡ n → i < n → m ≡ times x (take i l) → r ≡ oneIf (eqb (getD l i 0) x) → m + r ≡ times x (take (i + 1) l)
+  times-next i n m r f h e g = rw (add-one, take-suc l i 0 (omega arith), times-end x (getD l i 0) (take i l), e, g)
 
-  pub among-all : (i n : ℕ) (y : Bool) → length l ≡ n → n ≤ i → y ≡ among x (take i l) → y ≡ among x l
-  among-all i n y f h e = rw (take-all i l (omega arith)) at e
+  pub times-all : (i n m : ℕ) → length l ≡ n → n ≤ i → m ≡ times x (take i l) → m ≡ times x l
+  times-all i n m f h e = rw (take-all i l (omega arith)) at e
 
-or-no : (a b : Bool) → a || b ≡ false → (a ≡ false) × (b ≡ false)
-or-no true b h = said-no (sym h)
-or-no false b h = (refl, h)
+-- one for the number at k, and one more for that at j
+pub times-some : (x : ℕ) (l : List ℕ) (k : ℕ) → k < length l → getD l k 0 ≡ x → 1 ≤ times x l
+unfolding times
+times-some x [] k b e = absurd (not-suc-le-zero b)
+times-some x (y ∷ l) zero b e = let h : eqb y x ≡ true = eq-eqb y x e in rw h (omega arith)
+times-some x (y ∷ l) (suc k) b e = let h = times-some x l k (le-of-suc-le-suc b) e in omega arith
 
--- where none is x, the number at k is another
-pub among-no : (x : ℕ) (l : List ℕ) → among x l ≡ false → (k : ℕ) → k < length l → getD l k 0 ≡ x → ⊥
-unfolding among
-among-no x [] h k b e = not-suc-le-zero b
-among-no x (y ∷ l) h zero b e =
-    let n : eqb y x ≡ false = or-no (eqb y x) (among x l) h .0 in
-    let m : eqb y x ≡ true = eq-eqb y x e in
-    let z : _≡_ {A = ℕ} 0 1 = cc in
-    absurd (omega arith)
-among-no x (y ∷ l) h (suc k) b e = among-no x l (or-no (eqb y x) (among x l) h .1) k (le-of-suc-le-suc b) e
+pub times-two : (x : ℕ) (l : List ℕ) (k j : ℕ) → k < length l → j < length l → (k ≡ j → ⊥) → getD l k 0 ≡ x → getD l j 0 ≡ x → 2 ≤ times x l
+unfolding times
+times-two x [] k j b d n e f = absurd (not-suc-le-zero b)
+times-two x (y ∷ l) zero zero b d n e f = absurd (n refl)
+times-two x (y ∷ l) zero (suc j) b d n e f =
+    let h : eqb y x ≡ true = eq-eqb y x e in
+    let g = times-some x l j (le-of-suc-le-suc d) f in
+    rw h (omega arith)
+times-two x (y ∷ l) (suc k) zero b d n e f =
+    let h : eqb y x ≡ true = eq-eqb y x f in
+    let g = times-some x l k (le-of-suc-le-suc b) e in
+    rw h (omega arith)
+times-two x (y ∷ l) (suc k) (suc j) b d n e f =
+    let h = times-two x l k j (le-of-suc-le-suc b) (le-of-suc-le-suc d) (λ q. n (ap suc q)) e f in
+    omega arith
 
 ------------------------------------------------------------------------
 -- Every number below a bound
@@ -225,9 +237,9 @@ below-at bound (y ∷ l) h (suc k) b = below-at bound l (and-yes (ltb y bound) (
 -- Pairs and fours below their bounds
 
 -- the number at a place is at most r, and r below a bound
-apart-below : (r bound : ℕ) (l : List ℕ) (at step n k i : ℕ) → Apart r l at step n → r < bound → k < n → i ≡ at + k * step → ltb (getD l i 0) bound ≡ true
+apart-below : (r bound : ℕ) (l : List ℕ) (at step n k i : ℕ) → Apart at step n l r → r < bound → k < n → i ≡ at + k * step → ltb (getD l i 0) bound ≡ true
 apart-below r bound l at step n k i u h b e =
-    let x : getD l i 0 ≤ r = subst (λ (z : ℕ). getD l z 0 ≤ r) (sym e) (u k b) in
+    let x : getD l i 0 ≤ r = subst (λ (z : ℕ). getD l z 0 ≤ r) (sym e) (u .most k b) in
     lt-ltb (getD l i 0) bound (omega arith)
 
 abbrev pairIn : ℕ → ℕ → List ℕ → ℕ → Bool
@@ -283,25 +295,48 @@ module _ (a b : ℕ) (l : List ℕ) where
       all-below (pairIn a b l) (pairsBelow a b l) (λ j. refl) refl n (λ i g.
       rw (lt-ltb (getD l (2 * i) 0) a (h i g .0), lt-ltb (getD l (2 * i + 1) 0) b (h i g .1)))
 
--- what a look at pairs told: from both tests, from one, and where the numbers put together, x and y, show it all
+-- what a look at pairs told, where x and y are their numbers put together
 abbrev told : Bool → Bool → Told
 told below none = record { below = below; none = none }
 
-module _ (a b : ℕ) (l : List ℕ) (n : ℕ) where
-  pub look-each : (below none : Bool) → below ≡ pairsBelow a b l n → none ≡ pairsBelow a 1 l n → told below none ≡ pairsTold a b l n
-  look-each below none p q = rw (p, q)
+module _ (a b : ℕ) (l : List ℕ) (n x y : ℕ) (o : 0 < b) (t : TwoTogether n l x y) where
+  -- every second number is 0 exactly where y is, and then the bounds b and 1 ask the same
+  none-told : (below : Bool) → below ≡ pairsBelow a b l n → below && eqb y 0 ≡ pairsBelow a 1 l n
+  none-told below e = by (pairsBelow a 1 l n) (eqb y 0) below refl refl e
+    where
+      zero-at : y ≡ 0 → (i : ℕ) → i < n → getD l (2 * i + 1) 0 ≡ 0
+      zero-at z i h =
+          let q : 1 + i * 2 ≡ 2 * i + 1 = omega arith in
+          let m = t .seconds .most i h in
+          subst (λ (k : ℕ). getD l k 0 ≡ 0) q (omega arith)
 
-  module _ (x y : ℕ) (t : TwoTogether n l x y) where
-    pub look-below : (none : Bool) → none ≡ pairsBelow a 1 l n → ltb x a && ltb y b ≡ true → told true none ≡ pairsTold a b l n
-    look-below none e h = look-each true none (pairs-tested a b l n x y t h) e
+      by : (u v w : Bool) → pairsBelow a 1 l n ≡ u → eqb y 0 ≡ v → w ≡ pairsBelow a b l n → w && v ≡ u
+      by true false w p q r =
+          let z : y ≡ 0 =
+              t .seconds .zeros (λ k h.
+                let d : 2 * k + 1 ≡ 1 + k * 2 = omega arith in
+                let s = pairs-each a 1 l n p k h in
+                subst (λ (i : ℕ). getD l i 0 ≡ 0) d (omega arith)) in
+          said-no (sym q ∙ eq-eqb y 0 z)
+      by true true w p q r =
+          let s : pairsBelow a b l n ≡ true = pairs-every a b l n (λ i h. let f = pairs-each a 1 l n p i h in (f .0, omega arith)) in
+          rw (r, s)
+      by false false w p q r = and-end false w
+      by false true true p q r =
+          let z : y ≡ 0 = eqb-true y 0 q in
+          let s : pairsBelow a 1 l n ≡ true =
+              pairs-every a 1 l n (λ i h.
+                let f = pairs-each a b l n (sym r) i h in
+                let g = zero-at z i h in
+                (f .0, omega arith)) in
+          said-no (sym p ∙ s)
+      by false true false p q r = refl
 
-    pub look-none : 0 < b → ltb x a && ltb y 1 ≡ true → told true true ≡ pairsTold a b l n
-    look-none o h =
-        let p = and-yes (ltb x a) (ltb y 1) h in
-        let z : y < 1 = ltb-true y 1 (p .1) in
-        let w : ltb y b ≡ true = lt-ltb y b (omega arith) in
-        let q : ltb x a && ltb y b ≡ true = rw (p .0, w) in
-        look-below true (pairs-tested a 1 l n x y t h) q
+  pub look-each : (below : Bool) → below ≡ pairsBelow a b l n → told below (below && eqb y 0) ≡ pairsTold a b l n
+  look-each below e = rw (none-told below e, e)
+
+  pub look-below : ltb x a && ltb y b ≡ true → told true (eqb y 0) ≡ pairsTold a b l n
+  look-below h = look-each true (pairs-tested a b l n x y t h)
 
 abbrev fourIn : ℕ → ℕ → ℕ → List ℕ → ℕ → Bool
 fourIn a b c l i = ltb (getD l (4 * i) 0) a && (ltb (getD l (4 * i + 1) 0) b && ltb (getD l (4 * i + 2) 0) c)

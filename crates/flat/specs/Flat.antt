@@ -1,7 +1,8 @@
 -- What a flat look at numbers tells.
 use Prim.Native.Nat.{ℕ, zero, suc, _+_, _*_, _≤_, _<_}
-use mathlib.Core.Bool.{Bool, true, false, _&&_, _||_}
+use mathlib.Core.Bool.{Bool, true, false, _&&_}
 use mathlib.Core.List.{List, [], _∷_}
+use mathlib.Core.Path.{_≡_}
 use lib.Dec.{ltb, eqb}
 use lib.ListN.{getD}
 use Rattle.flat.specs.declared.Told.{Told}
@@ -10,10 +11,14 @@ use Rattle.flat.specs.declared.Told.{Told}
 abbrev pub block : ℕ
 block = 64
 
--- one of the numbers is x
-unfoldable pub among : ℕ → List ℕ → Bool
-among x [] = false
-among x (y ∷ l) = eqb y x || among x l
+-- how many of the numbers are x
+abbrev pub oneIf : Bool → ℕ
+oneIf true = 1
+oneIf false = 0
+
+unfoldable pub times : ℕ → List ℕ → ℕ
+times x [] = 0
+times x (y ∷ l) = oneIf (eqb y x) + times x l
 
 -- every number is below the bound
 unfoldable pub allBelow : ℕ → List ℕ → Bool
@@ -42,17 +47,18 @@ foursBelow a b c l (suc n) =
 abbrev pub UpTo : ℕ → List ℕ → ℕ → ℕ → Type 0
 UpTo r l at n = (k : ℕ) → k < n → getD l (at + k) 0 ≤ r
 
--- r is at least each of n numbers from a place on that stand a step apart
-abbrev pub Apart : ℕ → List ℕ → ℕ → ℕ → ℕ → Type 0
-Apart r l at step n = (k : ℕ) → k < n → getD l (at + k * step) 0 ≤ r
+-- n numbers from a place on that stand a step apart: r is at least each of them, and 0 where they all are
+pub record Apart (at step n : ℕ) (l : List ℕ) (r : ℕ) : Type 0 where
+  pub most : (k : ℕ) → k < n → getD l (at + k * step) 0 ≤ r
+  pub zeros : ((k : ℕ) → k < n → getD l (at + k * step) 0 ≡ 0) → r ≡ 0
 
--- of n pairs: a and b are at least each first and each second number
+-- so for the first and the second numbers of n pairs
 pub record TwoTogether (n : ℕ) (l : List ℕ) (a b : ℕ) : Type 0 where
-  pub firsts : Apart a l 0 2 n
-  pub seconds : Apart b l 1 2 n
+  pub firsts : Apart 0 2 n l a
+  pub seconds : Apart 1 2 n l b
 
--- of n fours: a, b and c are at least each first, each second and each third number
+-- and for the first, the second and the third numbers of n fours
 pub record ThreeTogether (n : ℕ) (l : List ℕ) (a b c : ℕ) : Type 0 where
-  pub firsts : Apart a l 0 4 n
-  pub seconds : Apart b l 1 4 n
-  pub thirds : Apart c l 2 4 n
+  pub firsts : Apart 0 4 n l a
+  pub seconds : Apart 1 4 n l b
+  pub thirds : Apart 2 4 n l c

@@ -3,23 +3,30 @@
 ghost use mathlib.Core.Path.{_≡_};
 ghost use Prim.Native.Nat.{_+_, _-_, _*_, _≤_, _<_};
 ghost use lib.ListN.{length};
-ghost use Rattle.flat.specs.Flat.{block, among, allBelow, pairsBelow, pairsTold, foursBelow, UpTo, Apart, TwoTogether, ThreeTogether};
+ghost use Rattle.flat.specs.Flat.{block, oneIf, times, allBelow, pairsBelow, pairsTold, foursBelow, UpTo, Apart, TwoTogether, ThreeTogether};
 
 // How many numbers one look takes in.
 pub const BLOCK: usize = 64;
 
-// Whether one of the numbers of a block is x.
-pub fn among(part: &[u32], x: u32) -> bool
+// How many of the numbers of a block are x.
+pub fn times(part: &[u32], x: u32) -> u32
     requires { ⌜ length (now part) ≡ block ⌝ }
-    ensures { λ hit. ⌜ hit ≡ among x (now (part .entry)) ⌝ }
+    ensures { λ r. ⌜ r ≡ times x (now (part .entry)) ⌝ }
 {
-    let mut hit = false;
+    let mut n: u32 = 0;
     let mut j = 0;
     while j < BLOCK {
-        hit = hit | (part[j] == x);
+        n = n + one_if(part[j] == x);
         j = j + 1;
     }
-    hit
+    n
+}
+
+// 1 for a yes, 0 for a no.
+fn one_if(yes: bool) -> u32
+    ensures { λ r. ⌜ (r ≡ oneIf yes) × (r ≤ 1) ⌝ }
+{
+    if yes { 1 } else { 0 }
 }
 
 // ---- Every number below a bound
@@ -113,7 +120,7 @@ pub fn all_below(part: &[u32], bound: u32) -> bool
 // At least each of 16 numbers from a place on that stand a step apart.
 fn joined_apart(part: &[u32], at: usize, step: usize) -> u32
     requires { ⌜ (at + 15 * step < length (now part)) × (step ≤ 4) ⌝ }
-    ensures { λ r. ⌜ Apart r (now (part .entry)) at step 16 ⌝ }
+    ensures { λ r. ⌜ Apart at step 16 (now (part .entry)) r ⌝ }
 {
     let mut o: u32 = 0;
     let mut j = 0;
@@ -181,19 +188,14 @@ pub fn pairs(part: &[u32], n: usize, a: u32, b: u32) -> Told
     ensures { λ r. ⌜ r ≡ pairsTold a b (now (part .entry)) n ⌝ }
 {
     let all = joined_pairs(part, n);
-    if (all.first < a) & (all.second < 1) {
-        return Told {
-            below: true,
-            none: true,
-        };
-    }
-    let none = each_pair_below(part, n, a, 1);
+    let none = all.second == 0;
     if (all.first < a) & (all.second < b) {
         return Told { below: true, none };
     }
+    let below = each_pair_below(part, n, a, b);
     Told {
-        below: each_pair_below(part, n, a, b),
-        none,
+        below,
+        none: below & none,
     }
 }
 

@@ -12,8 +12,8 @@ use lib.ListN.{getD, length}
 use lib.Seq.{getD-take, getD-drop}
 use borrow.Author.Tests.{le-leb, lt-ltb, ne-eqb}
 use borrow.Rule.Slice.PartMut.{midOf, mid-len}
-use Rattle.flat.specs.Flat.{among, allBelow}
-use Rattle.flat.proofs.Flat.{among-no, below-at}
+use Rattle.flat.specs.Flat.{times, allBelow}
+use Rattle.flat.proofs.Flat.{times-some, times-two, below-at}
 use Rattle.flat.proofs.Below.{below-more, below-out, below-all}
 use Rattle.model.specs.Lent.{rowAt, emptyKind, waitingKind}
 use Rattle.model.specs.Range.{rowOk, rowsOk}
@@ -36,11 +36,25 @@ module _ (a e : ℕ) (l : List ℕ) (h : e ≤ length l) where
       let z : a + (i - a) ≡ i = omega arith in
       simp (getD-take, getD-drop, z)
 
+  -- x stands in the part at one place, or at two, so so often at least
+  module _ (x i : ℕ) (b : a ≤ i) (g : i < e) (q : getD l i 0 ≡ x) where
+    part-some : 1 ≤ times x (midOf a (e - a) l)
+    part-some =
+        let n : length (midOf a (e - a) l) ≡ e - a = mid-len a e l h in
+        times-some x (midOf a (e - a) l) (i - a) (omega arith) (part-at i b g ∙ q)
+
+    part-two : (j : ℕ) → a ≤ j → j < e → (i ≡ j → ⊥) → getD l j 0 ≡ x → 2 ≤ times x (midOf a (e - a) l)
+    part-two j c f d p =
+        let n : length (midOf a (e - a) l) ≡ e - a = mid-len a e l h in
+        times-two x (midOf a (e - a) l) (i - a) (j - a) (omega arith) (omega arith) (λ z. d (omega arith)) (part-at i b g ∙ q) (part-at j c f ∙ p)
+
   -- x is none of the part's numbers
-  pub part-free : (x i : ℕ) → among x (midOf a (e - a) l) ≡ false → a ≤ i → i < e → getD l i 0 ≡ x → ⊥
-  part-free x i f b g q =
-      let n : length (midOf a (e - a) l) ≡ e - a = mid-len a e l h in
-      among-no x (midOf a (e - a) l) f (i - a) (omega arith) (part-at i b g ∙ q)
+  pub part-free : (x i m : ℕ) → m ≡ times x (midOf a (e - a) l) → m ≡ 0 → a ≤ i → i < e → getD l i 0 ≡ x → ⊥
+  part-free x i m f z b g q = let s = part-some x i b g q in absurd (omega arith)
+
+  -- or none but the one at j
+  pub part-alone : (x i j m : ℕ) → m ≡ times x (midOf a (e - a) l) → m ≤ 1 → a ≤ i → i < e → a ≤ j → j < e → (i ≡ j → ⊥) → getD l j 0 ≡ x → getD l i 0 ≡ x → ⊥
+  part-alone x i j m f z b g c d n p q = let s = part-two x i b g q j c d n p in absurd (omega arith)
 
   -- all of them are below a bound
   pub part-below : (bound i : ℕ) → allBelow bound (midOf a (e - a) l) ≡ true → a ≤ i → i < e → getD l i 0 < bound
@@ -111,10 +125,10 @@ and-no : (b : Bool) → b && false ≡ false
 and-no true = refl
 and-no false = refl
 
--- where row p has its word and hit says that no row of a block of the links names it, the rows there lack nothing
-pub block-calm : (c p w from to low : ℕ) (l : List ℕ) (hit : Bool) → length l ≡ 4 * c → 64 ≤ c → from ≤ to → to ≤ c → to ≤ from + 64 → low ≡ to - 64
-    → Has c p l → hit ≡ among p (midOf (2 * c + low) (2 * c + low + 64 - (2 * c + low)) l) → hit ≡ false → l ≡ filledFrom c p w from (to - from) l
-block-calm c p w from to low l hit long g o b t e h f n = filled-calm c p w from l (to - from) calm
+-- where row p has its word and no row of a block of the links names it, as n says, the rows there lack nothing
+pub block-calm : (c p w from to low n : ℕ) (l : List ℕ) → length l ≡ 4 * c → 64 ≤ c → from ≤ to → to ≤ c → to ≤ from + 64 → low ≡ to - 64
+    → Has c p l → n ≡ times p (midOf (2 * c + low) (2 * c + low + 64 - (2 * c + low)) l) → n ≡ 0 → l ≡ filledFrom c p w from (to - from) l
+block-calm c p w from to low n l long g o b t e h f z = filled-calm c p w from l (to - from) calm
   where
     calm : Calm c p l from (to - from)
     calm k q =
@@ -124,7 +138,7 @@ block-calm c p w from to low l hit long g o b t e h f n = filled-calm c p w from
         let x : eqb (from + k) p ≡ false = ne-eqb (from + k) p d in
         let y : eqb (getD l (2 * c + (from + k)) 0) p ≡ false =
         ne-eqb (getD l (2 * c + (from + k)) 0) p
-        (part-free (2 * c + low) (2 * c + low + 64) l (omega arith) p (2 * c + (from + k)) (sym f ∙ n) (omega arith) (omega arith)) in
+        (part-free (2 * c + low) (2 * c + low + 64) l (omega arith) p (2 * c + (from + k)) n f z (omega arith) (omega arith)) in
         rw (x, y) (and-no (eqb (getD l (from + k) 0) waitingKind)))
         (same-or-not (from + k) p)
 

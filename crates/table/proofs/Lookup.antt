@@ -12,12 +12,13 @@ use Rattle.model.specs.declared.Row.{Row}
 use Rattle.model.specs.declared.Found.{Found}
 use Rattle.model.specs.declared.Found.the-variants.{At, Nothing}
 use Rattle.model.proofs.Rings.{back-straight, back-round}
-use Rattle.flat.specs.Flat.{among}
-use Rattle.table.specs.Table.{Within, wanted}
-use Rattle.table.proofs.Columns.{part-free}
+use Rattle.flat.specs.Flat.{times}
+use Rattle.table.specs.Table.{Within, Alone, Nearby, wanted}
+use Rattle.table.proofs.Columns.{part-free, part-alone}
 use Rattle.map.specs.declared.Address.{Address}
-use borrow.Author.Tests.{ne-eqb}
-use lib.ListN.{length}
+use borrow.Author.Tests.{ne-eqb, ltb-false}
+use lib.Dec.{ltb}
+use lib.ListN.{length, getD}
 use borrow.Rule.Slice.PartMut.{midOf}
 
 ------------------------------------------------------------------------
@@ -102,21 +103,36 @@ module _ (f : Row → Bool) (c : ℕ) (l : List ℕ) where
       rw (e, t) (scan-free n (i - 1) (omega arith) (λ (j : ℕ) (x : j < i - 1) (y : i - 1 ≤ j + n). h j (omega arith) (omega arith)))
 
   ------------------------------------------------------------------------
-  -- A block, the rows from `low` up to i: r is what it gave, and the part from `from` is to find x
+  -- A block, the n rows before place i: r is what it gave, and the part from `from` is to find x
 
-  module _ (from low i : ℕ) (x r : Found) where
-    pub block-hit : (j : ℕ) → scan f c l (i - from) i ≡ x → from ≤ low → low < i → r ≡ scan f c l (i - low) i → r ≡ At j → At j ≡ x
-    block-hit j hx b g hr e =
+  module _ (from n i : ℕ) (x r : Found) where
+    pub block-hit : (j : ℕ) → scan f c l (i - from) i ≡ x → n ≤ i - from → r ≡ scan f c l (i - (i - n)) i → r ≡ At j → At j ≡ x
+    block-hit j hx b hr e =
+        let s : i - (i - n) + (i - n - from) ≡ i - from = omega arith in
+        let y : scan f c l (i - (i - n)) i ≡ At j = cc in
+        sym (rw s at (scan-found (i - (i - n)) (i - n - from) i j y)) ∙ hx
+
+    pub block-miss : scan f c l (i - from) i ≡ x → n ≤ i - from → r ≡ scan f c l (i - (i - n)) i → r ≡ Nothing → scan f c l (i - n - from) (i - n) ≡ x
+    block-miss hx b hr e =
+        let s : i - (i - n) + (i - n - from) ≡ i - from = omega arith in
+        let d : i - (i - (i - n)) ≡ i - n = omega arith in
+        let y : scan f c l (i - (i - n)) i ≡ Nothing = cc in
+        sym (rw (s, d) at (scan-past (i - (i - n)) (i - n - from) i (omega arith) y)) ∙ hx
+
+  -- r is what the rows from `low` up to i gave, and q what those from `from` up to `low` gave
+  module _ (from low i : ℕ) (r : Found) (b : from ≤ low) (g : low ≤ i) (h : r ≡ scan f c l (i - low) i) where
+    pub upper-found : (j : ℕ) → r ≡ At j → At j ≡ scan f c l (i - from) i
+    upper-found j e =
         let s : i - low + (low - from) ≡ i - from = omega arith in
         let y : scan f c l (i - low) i ≡ At j = cc in
-        sym (rw s at (scan-found (i - low) (low - from) i j y)) ∙ hx
+        sym (rw s at (scan-found (i - low) (low - from) i j y))
 
-    pub block-miss : scan f c l (i - from) i ≡ x → from ≤ low → low < i → r ≡ scan f c l (i - low) i → r ≡ Nothing → scan f c l (low - from) low ≡ x
-    block-miss hx b g hr e =
+    pub lower-rest : (q : Found) → r ≡ Nothing → q ≡ scan f c l (low - from) low → q ≡ scan f c l (i - from) i
+    lower-rest q e p =
         let s : i - low + (low - from) ≡ i - from = omega arith in
         let d : i - (i - low) ≡ low = omega arith in
         let y : scan f c l (i - low) i ≡ Nothing = cc in
-        sym (rw (s, d) at (scan-past (i - low) (low - from) i (omega arith) y)) ∙ hx
+        p ∙ sym (rw (s, d) at (scan-past (i - low) (low - from) i (omega arith) y))
 
   -- before place c comes what comes before place 0
   scan-over : (n : ℕ) → 0 < c → scan f c l n c ≡ scan f c l n 0
@@ -165,10 +181,73 @@ pub other-address : (written : Bool) (a : Address) (r : Row) → (r .address .0 
 other-address true a r h = simp (ne-eqb (r .address .0) (a .0) h, and-false)
 other-address false a r h = simp (ne-eqb (r .address .0) (a .0) h, and-false)
 
--- rows of a block of the addresses, hit says whether one of them is a
-pub block-free : (written : Bool) (a : Address) (c from to low : ℕ) (l : List ℕ) (hit : Bool) → length l ≡ 4 * c → 64 ≤ c → from ≤ to → to ≤ c → to ≤ from + 64
-    → low ≡ to - 64 → hit ≡ among (a .0) (midOf (c + low) (c + low + 64 - (c + low)) l) → hit ≡ false → Nothing ≡ scan (wanted written a) c l (to - from) to
-block-free written a c from to low l hit long g o b t e f n =
+-- rows of which none has the address
+rows-free : (written : Bool) (a : Address) (c from to : ℕ) (l : List ℕ) → from ≤ to → ((j : ℕ) → from ≤ j → j < to → getD l (c + j) 0 ≡ a .0 → ⊥)
+    → Nothing ≡ scan (wanted written a) c l (to - from) to
+rows-free written a c from to l o h =
     scan-free (wanted written a) c l (to - from) to (omega arith)
-    (λ (j : ℕ) (x : j < to) (y : to ≤ j + (to - from)).
-    other-address written a (rowAt c l j) (part-free (c + low) (c + low + 64) l (omega arith) (a .0) (c + j) (sym f ∙ n) (omega arith) (omega arith)))
+    (λ (j : ℕ) (x : j < to) (y : to ≤ j + (to - from)). other-address written a (rowAt c l j) (h j (omega arith) x))
+
+-- the rows of a block, in which the address stands n times: none
+pub block-free : (written : Bool) (a : Address) (c from to n : ℕ) (l : List ℕ) → length l ≡ 4 * c → to ≡ from + 64 → to ≤ c
+    → n ≡ times (a .0) (midOf (c + from) (c + from + 64 - (c + from)) l) → n ≡ 0 → Nothing ≡ scan (wanted written a) c l (to - from) to
+block-free written a c from to n l long e b f z =
+    rows-free written a c from to l (omega arith) (λ j x y.
+      part-free (c + from) (c + from + 64) l (omega arith) (a .0) (c + j) n f z (omega arith) (omega arith))
+
+-- no rows
+pub rest-none : (written : Bool) (a : Address) (c from to : ℕ) (l : List ℕ) → to ≤ from → Nothing ≡ scan (wanted written a) c l (to - from) to
+rest-none written a c from to l h = sym (scan-none (wanted written a) c l (to - from) to (omega arith))
+
+-- the rows below `to` of a block, in which the address stands n times: none
+pub rest-free : (written : Bool) (a : Address) (c from to low n : ℕ) (l : List ℕ) → length l ≡ 4 * c → 64 ≤ c → from < to → to ≤ c → to ≤ from + 64 → low ≡ to - 64
+    → n ≡ times (a .0) (midOf (c + low) (c + low + 64 - (c + low)) l) → n ≡ 0 → Nothing ≡ scan (wanted written a) c l (to - from) to
+rest-free written a c from to low n l long g o b t e f z =
+    rows-free written a c from to l (omega arith) (λ j x y.
+      part-free (c + low) (c + low + 64) l (omega arith) (a .0) (c + j) n f z (omega arith) (omega arith))
+
+-- the address stands n times in the block from `low` on: not at all, or at the position alone
+module _ (c position low a n : ℕ) (l : List ℕ) (long : length l ≡ 4 * c) (o : low ≤ position) (p : position < low + 64) (b : low + 64 ≤ c)
+    (f : n ≡ times a (midOf (c + low) (c + low + 64 - (c + low)) l)) where
+  pub near-none : ltb 0 n ≡ false → Alone c position low a l
+  near-none h j x y d q =
+      let z : n ≤ 0 = ltb-false 0 n h in
+      part-free (c + low) (c + low + 64) l (omega arith) a (c + j) n f (omega arith) (omega arith) (omega arith) q
+
+  pub near-own : getD l (c + position) 0 ≡ a → ltb 1 n ≡ false → Alone c position low a l
+  near-own e h j x y d q =
+      let z : n ≤ 1 = ltb-false 1 n h in
+      part-alone (c + low) (c + low + 64) l (omega arith) a (c + j) (c + position) n f z (omega arith) (omega arith) (omega arith) (omega arith)
+      (λ s. d (omega arith)) e q
+
+-- the rows of the block with the position, then those of the blocks below; those of the blocks above, then those of the block.
+-- r is what the first gave, q what the second gave
+module _ (written : Bool) (a : Address) (c position low : ℕ) (l : List ℕ) (near : Bool) (g : Nearby c position low (a .0) l near) where
+  module _ (r : Found) (h : r ≡ scan (wanted written a) c l (position - low) position) where
+    pub below-found : (j : ℕ) → r ≡ At j → At j ≡ scan (wanted written a) c l (position - 0) position
+    below-found j e = upper-found (wanted written a) c l 0 low position r (omega arith) (g .from) h j e
+
+    pub below-on : (q : Found) → r ≡ Nothing → q ≡ scan (wanted written a) c l (low - 0) low → q ≡ scan (wanted written a) c l (position - 0) position
+    below-on q e p = lower-rest (wanted written a) c l 0 low position r (omega arith) (g .from) h q e p
+
+  module _ (r : Found) (h : r ≡ scan (wanted written a) c l (c - (low + 64)) c) where
+    pub above-found : (j : ℕ) → r ≡ At j → At j ≡ scan (wanted written a) c l (c - (position + 1)) c
+    above-found j e = let o = g .to in upper-found (wanted written a) c l (position + 1) (low + 64) c r (omega arith) (g .within) h j e
+
+    pub above-on : (q : Found) → r ≡ Nothing → q ≡ scan (wanted written a) c l (low + 64 - (position + 1)) (low + 64)
+        → q ≡ scan (wanted written a) c l (c - (position + 1)) c
+    above-on q e p = let o = g .to in lower-rest (wanted written a) c l (position + 1) (low + 64) c r (omega arith) (g .within) h q e p
+
+  -- where the address stands at the position alone, the block gives nothing
+  module _ (n : near ≡ false) where
+    pub below-rest : (q : Found) → q ≡ scan (wanted written a) c l (low - 0) low → q ≡ scan (wanted written a) c l (position - 0) position
+    below-rest q p =
+        let o = g .from in
+        let t = g .to in
+        below-on Nothing (rows-free written a c low position l o (λ j x y. g .alone n j x (omega arith) (λ e. omega arith))) q refl p
+
+    pub above-rest : (r : Found) → r ≡ scan (wanted written a) c l (c - (low + 64)) c → r ≡ Nothing → Nothing ≡ scan (wanted written a) c l (c - (position + 1)) c
+    above-rest r h e =
+        let o = g .from in
+        let t = g .to in
+        above-on r h Nothing e (rows-free written a c (position + 1) (low + 64) l (omega arith) (λ j x y. g .alone n j (omega arith) y (λ z. omega arith)))

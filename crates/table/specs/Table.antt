@@ -3,7 +3,8 @@ use Prim.Native.Nat.{ℕ, zero, suc, _+_, _*_, _≤_, _<_}
 use mathlib.Core.Bool.{Bool, true, false}
 use mathlib.Core.List.{List}
 use mathlib.Core.Path.{_≡_}
-use lib.ListN.{getD}
+use lib.ListN.{getD, length}
+use Rattle.flat.specs.Flat.{block}
 use Rattle.map.specs.declared.Address.{Address}
 use Rattle.model.specs.Lent.{rowAt}
 use Rattle.model.specs.Cycle.{isOf, writes, lacks, filledRow}
@@ -20,6 +21,18 @@ wanted false a = isOf a
 abbrev pub Within : ℕ → Found → Type 0
 Within c (At i) = i < c
 Within c Nothing = Unit
+
+-- of the 64 rows from place `low` on, none but the row at the position has this address
+abbrev pub Alone : ℕ → ℕ → ℕ → ℕ → List ℕ → Type 0
+Alone c position low a l = (j : ℕ) → low ≤ j → j < low + block → (j ≡ position → ⊥) → getD l (c + j) 0 ≡ a → ⊥
+
+-- the block from place `low` on has the position in it, and where the answer is no the address there alone
+pub record Nearby (c position low a : ℕ) (l : List ℕ) (near : Bool) : Type 0 where
+  pub long : length l ≡ 4 * c
+  pub from : low ≤ position
+  pub to : position < low + block
+  pub within : low + block ≤ c
+  pub alone : near ≡ false → Alone c position low a l
 
 -- row p has its word, or needs none
 abbrev pub Has : ℕ → ℕ → List ℕ → Type 0

@@ -6,7 +6,7 @@ ghost use lib.ListN.{length};
 ghost use Rattle.model.specs.Lent.{rowAt, putRow};
 ghost use Rattle.model.specs.Cycle.{lacks, withWord, filledRow, filledBelow, scan, isOf, writes};
 ghost use Rattle.model.specs.Range.{rowOk, rowsOk};
-ghost use Rattle.table.specs.Table.{wanted, Within, Has, Calm, filledFrom, InRange};
+ghost use Rattle.table.specs.Table.{wanted, Within, Alone, Nearby, Has, Calm, filledFrom, InRange};
 use map::Address;
 use model::Found;
 use model::Row;
@@ -45,17 +45,6 @@ fn block_of(to: usize) -> usize
         return 0;
     }
     to - flat::BLOCK
-}
-
-// The block below i, or what is left of it above `from`: no further down than that.
-fn block_below(from: usize, i: usize) -> usize
-    requires { ⌜ from < i ⌝ }
-    ensures { λ r. ⌜ (from ≤ r) × (r < i) × (i ≤ r + 64) ⌝ }
-{
-    if i - from <= flat::BLOCK {
-        return from;
-    }
-    i - flat::BLOCK
 }
 
 // The block from place i on, or what is left of it below c: no further up than that.
@@ -104,53 +93,118 @@ fn scan_few(rows: &[u32], c: usize, from: usize, to: usize, a: Address, written:
     Found::Nothing
 }
 
-// The last such row from one place up to another that is at most 64 on: row by row only where the block has the address.
+// The last such row of the 64 from a place on: row by row only where one of them has the address.
 fn scan_block(rows: &[u32], c: usize, from: usize, to: usize, a: Address, written: bool) -> Found
+    requires { ⌜ (length (now rows) ≡ 4 * c) × (to ≡ from + 64) × (to ≤ c) ⌝ }
+    ensures { λ r. ⌜ (r ≡ scan (wanted written a) c (now (rows .entry)) (to - from) to) × Within to r ⌝ }
+{
+    let at = c + from;
+    if flat::times(&rows[at..at + flat::BLOCK], a.0) == 0 {
+        return Found::Nothing;
+    }
+    scan_few(rows, c, from, to, a, written)
+}
+
+// The last such row from one place up to another, fewer than 64 on: row by row only where a block that they are in has the address.
+fn scan_rest(rows: &[u32], c: usize, from: usize, to: usize, a: Address, written: bool) -> Found
     requires { ⌜ (length (now rows) ≡ 4 * c) × (64 ≤ c) × (from ≤ to) × (to ≤ c) × (to ≤ from + 64) ⌝ }
     ensures { λ r. ⌜ (r ≡ scan (wanted written a) c (now (rows .entry)) (to - from) to) × Within to r ⌝ }
 {
-    let at = c + block_of(to);
-    if flat::among(&rows[at..at + flat::BLOCK], a.0) {
-        return scan_few(rows, c, from, to, a, written);
+    if to <= from {
+        return Found::Nothing;
     }
-    Found::Nothing
+    let at = c + block_of(to);
+    if flat::times(&rows[at..at + flat::BLOCK], a.0) == 0 {
+        return Found::Nothing;
+    }
+    scan_few(rows, c, from, to, a, written)
 }
 
 // The last such row from one place up to another: straight down by blocks, so that no step has to look for the end of the table.
-fn scan_blocks(rows: &[u32], c: usize, from: usize, to: usize, a: Address, written: bool) -> Found
+fn scan_part(rows: &[u32], c: usize, from: usize, to: usize, a: Address, written: bool) -> Found
     requires { ⌜ (length (now rows) ≡ 4 * c) × (64 ≤ c) × (from ≤ to) × (to ≤ c) ⌝ }
     ensures { λ r. ⌜ (r ≡ scan (wanted written a) c (now (rows .entry)) (to - from) to) × Within to r ⌝ }
 {
     let mut i = to;
-    while from < i {
-        let low = block_below(from, i);
-        let r = scan_block(rows, c, low, i, a, written);
+    while flat::BLOCK <= i - from {
+        let r = scan_block(rows, c, i - flat::BLOCK, i, a, written);
         if let Found::At(j) = r {
             return Found::At(j);
         }
-        i = low;
+        i = i - flat::BLOCK;
     }
-    Found::Nothing
+    scan_rest(rows, c, from, i, a, written)
 }
 
-// A table that is shorter than a block has none.
-fn scan_part(rows: &[u32], c: usize, from: usize, to: usize, a: Address, written: bool) -> Found
-    requires { ⌜ (length (now rows) ≡ 4 * c) × (from ≤ to) × (to ≤ c) ⌝ }
-    ensures { λ r. ⌜ (r ≡ scan (wanted written a) c (now (rows .entry)) (to - from) to) × Within to r ⌝ }
+// Where a block with the row at the position begins.
+fn block_with(position: usize, c: usize) -> usize
+    requires { ⌜ (64 ≤ c) × (position < c) ⌝ }
+    ensures { λ r. ⌜ (r ≤ position) × (position < r + 64) × (r + 64 ≤ c) ⌝ }
 {
-    if c < flat::BLOCK {
-        return scan_few(rows, c, from, to, a, written);
+    let low = position - position % flat::BLOCK;
+    if c - low < flat::BLOCK {
+        return c - flat::BLOCK;
     }
-    scan_blocks(rows, c, from, to, a, written)
+    low
 }
 
-// The first such row before the position, going round: in the part below it, else in the part above it.
+// Whether a row of the block from place `low` on, other than the row at the position, has the address.
+fn near(rows: &[u32], c: usize, position: usize, low: usize, a: Address) -> bool
+    requires { ⌜ (length (now rows) ≡ 4 * c) × (low ≤ position) × (position < low + 64) × (low + 64 ≤ c) ⌝ }
+    ensures { λ yes. ⌜ (yes ≡ false → Alone c position low (a .0) (now (rows .entry))) ⌝ }
+{
+    let at = c + low;
+    let hits = flat::times(&rows[at..at + flat::BLOCK], a.0);
+    if rows[c + position] == a.0 {
+        return 1 < hits;
+    }
+    0 < hits
+}
+
+// The last such row below the position: row by row in its own block only where that is known to have one.
+fn scan_below(rows: &[u32], c: usize, position: usize, low: usize, there: bool, a: Address, written: bool) -> Found
+    requires { ⌜ Nearby c position low (a .0) (now rows) there ⌝ }
+    ensures { λ r. ⌜ (r ≡ scan (wanted written a) c (now (rows .entry)) (position - 0) position) × Within position r ⌝ }
+{
+    if there {
+        let Found::At(j) = scan_few(rows, c, low, position, a, written) else {
+            return scan_part(rows, c, 0, low, a, written);
+        };
+        return Found::At(j);
+    }
+    scan_part(rows, c, 0, low, a, written)
+}
+
+// The last such row above the position: its own block comes last.
+fn scan_above(rows: &[u32], c: usize, position: usize, low: usize, there: bool, a: Address, written: bool) -> Found
+    requires { ⌜ Nearby c position low (a .0) (now rows) there ⌝ }
+    ensures { λ r. ⌜ (r ≡ scan (wanted written a) c (now (rows .entry)) (c - (position + 1)) c) × Within c r ⌝ }
+{
+    let high = low + flat::BLOCK;
+    let Found::At(j) = scan_part(rows, c, high, c, a, written) else {
+        if there {
+            return scan_few(rows, c, position + 1, high, a, written);
+        }
+        return Found::Nothing;
+    };
+    Found::At(j)
+}
+
+// The first such row before the position, going round: below it, else above it; a table that is shorter than a block row by row.
 fn scan(rows: &[u32], c: usize, position: usize, a: Address, written: bool) -> Found
     requires { ⌜ (length (now rows) ≡ 4 * c) × (position < c) ⌝ }
     ensures { λ r. ⌜ (r ≡ scan (wanted written a) c (now (rows .entry)) (c - 1) position) × Within c r ⌝ }
 {
-    let Found::At(i) = scan_part(rows, c, 0, position, a, written) else {
-        return scan_part(rows, c, position + 1, c, a, written);
+    if c < flat::BLOCK {
+        let Found::At(i) = scan_few(rows, c, 0, position, a, written) else {
+            return scan_few(rows, c, position + 1, c, a, written);
+        };
+        return Found::At(i);
+    }
+    let low = block_with(position, c);
+    let there = near(rows, c, position, low, a);
+    let Found::At(i) = scan_below(rows, c, position, low, there, a, written) else {
+        return scan_above(rows, c, position, low, there, a, written);
     };
     Found::At(i)
 }
@@ -223,9 +277,10 @@ fn fill_block(rows: &mut [u32], c: usize, from: usize, to: usize, p: u32, w: u32
     ensures { λ _. ⌜ now (rows .exit) ≡ filledFrom c p w from (to - from) (now (rows .entry)) ⌝ }
 {
     let at = 2 * c + block_of(to);
-    if flat::among(&rows[at..at + flat::BLOCK], p) {
-        fill_few(rows, c, from, to, p, w);
+    if flat::times(&rows[at..at + flat::BLOCK], p) == 0 {
+        return;
     }
+    fill_few(rows, c, from, to, p, w);
 }
 
 // Every row, where row p has its word.

@@ -1,13 +1,13 @@
 -- `buffers::each_ok` meets its contract. The loop's invariant: the buffers of the banks below b are in range. Assumes nothing.
 use borrow.Author.Needs.{needs}
 use Prim.Native.Nat.{_≤_, _-_}
-use mathlib.Core.Path.{_≡_, refl}
+use mathlib.Core.Path.{_≡_}
 use mathlib.Core.Bool.{true}
 use native.Mathlib.Omega.{arith}
 use Rattle.model.specs.Lent.{buffersIn}
 use Rattle.model.specs.Range.{buffersOk}
 use Rattle.buffers.proofs.Banks.{heads-buffer}
-use Rattle.buffers.proofs.Waiting.{buffers-more, buffers-out, buffers-all}
+use Rattle.buffers.proofs.Waiting.{buffers-first, buffers-on, buffers-out, buffers-all}
 use Rattle.buffers.proofs.each_ok.Statement.{statement}
 use Rattle.buffers.proofs.each_ok.Tie as tie
 
@@ -17,21 +17,26 @@ Inv-loop s n banks entries heads b₀ b = (b ≤ banks) × (buffersOk s (buffers
 abbrev μ-loop : tie.MeasureT-loop
 μ-loop s n banks entries heads b₀ b = banks - b
 
+next-waiting-requires : tie.Need-next-waiting-requires Inv-loop μ-loop
+next-waiting-requires c κs = search needs
+
 loop-holds : tie.Need-loop-holds Inv-loop μ-loop
-unfolding buffersOk
-loop-holds c = (omega arith, refl)
+loop-holds c = (omega arith, search buffers-first)
 
 waiting-ok-requires : tie.Need-waiting-ok-requires Inv-loop μ-loop
 waiting-ok-requires c κs = (search heads-buffer, search needs)
 
-add-b : tie.Need-add-b Inv-loop μ-loop
-add-b c = search needs
+add-next-waiting : tie.Need-add-next-waiting Inv-loop μ-loop
+add-next-waiting c = search needs
+
+next-waiting-requires-2 : tie.Need-next-waiting-requires-2 Inv-loop μ-loop
+next-waiting-requires-2 c κs = search needs
 
 loop-less : tie.Need-loop-less Inv-loop μ-loop
 loop-less c = search needs
 
 loop-again : tie.Need-loop-again Inv-loop μ-loop
-loop-again c = (omega arith, search buffers-more)
+loop-again c = (omega arith, search buffers-on)
 
 returns : tie.Need-returns Inv-loop μ-loop
 returns c = search buffers-out
@@ -45,9 +50,11 @@ each-ok-spec =
     (tie.spec
     Inv-loop
     μ-loop
+    next-waiting-requires
     loop-holds
     waiting-ok-requires
-    add-b
+    add-next-waiting
+    next-waiting-requires-2
     loop-less
     loop-again
     returns

@@ -1,21 +1,20 @@
 -- `flat::joined_apart` meets its contract. The loop's invariant: o is at least each of the j numbers. Assumes nothing.
 use borrow.Author.Needs.{needs}
 use Prim.Native.Nat.{_-_, _≤_}
-use native.Mathlib.Nat.{not-suc-le-zero}
 use native.Mathlib.Omega.{arith}
 use Rattle.flat.specs.Flat.{Apart}
-use Rattle.flat.proofs.Flat.{apart-one, apart-span}
+use Rattle.flat.proofs.Flat.{apart-none, apart-one, apart-done, apart-span}
 use Rattle.flat.proofs.joined_apart.Statement.{statement}
 use Rattle.flat.proofs.joined_apart.Tie as tie
 
 abbrev Inv-loop : tie.InvT-loop
-Inv-loop part at step o₀ j₀ o j = (j ≤ 16) × Apart o part at step j
+Inv-loop part at step o₀ j₀ o j = (j ≤ 16) × Apart at step j part o
 
 abbrev μ-loop : tie.MeasureT-loop
 μ-loop part at step o₀ j₀ o j = 16 - j
 
 loop-holds : tie.Need-loop-holds Inv-loop μ-loop
-loop-holds c = (omega arith, λ k h. absurd (not-suc-le-zero h))
+loop-holds c = (omega arith, search apart-none)
 
 mul-o : tie.Need-mul-o Inv-loop μ-loop
 mul-o c = let h = apart-span (c .before .before .args .step) (c .before .loop .j) (omega arith) in search needs
@@ -39,7 +38,7 @@ loop-again : tie.Need-loop-again Inv-loop μ-loop
 loop-again c = (omega arith, search apart-one)
 
 returns : tie.Need-returns Inv-loop μ-loop
-returns c = λ k h. c .before .loop .inv .1 k (omega arith)
+returns c = search apart-done
 
 pub joined-apart-spec : {M : Type 1} → statement M
 joined-apart-spec =

@@ -1,6 +1,6 @@
 -- `flat::pairs` meets its contract: numbers that are below the bounds all together are so each. Assumes nothing.
 use borrow.Author.Needs.{needs}
-use Rattle.flat.proofs.Flat.{look-none, look-below, look-each}
+use Rattle.flat.proofs.Flat.{look-below, look-each}
 use Rattle.flat.proofs.pairs.Statement.{statement}
 use Rattle.flat.proofs.pairs.Tie as tie
 
@@ -8,27 +8,13 @@ joined-pairs-requires : tie.Need-joined-pairs-requires
 joined-pairs-requires c κs = search needs
 
 returns : tie.Need-returns
-returns c = search look-none
+returns c = search look-below
 
 each-pair-below-requires : tie.Need-each-pair-below-requires
 each-pair-below-requires c κs = search needs
 
 returns-2 : tie.Need-returns-2
-returns-2 c = search look-below
-
-each-pair-below-requires-2 : tie.Need-each-pair-below-requires-2
-each-pair-below-requires-2 c κs = search needs
-
-returns-3 : tie.Need-returns-3
-returns-3 c = search look-each
+returns-2 c = search look-each
 
 pub pairs-spec : {M : Type 1} → statement M
-pairs-spec =
-    tie.close
-    (tie.spec
-    joined-pairs-requires
-    returns
-    each-pair-below-requires
-    returns-2
-    each-pair-below-requires-2
-    returns-3)
+pairs-spec = tie.close (tie.spec joined-pairs-requires returns each-pair-below-requires returns-2)

@@ -1,10 +1,11 @@
-use Rattle.table.proofs.Lookup.{scan-low, scan-high, found-low}
+-- `table::scan` meets its contract: what is below the position comes first, then what is above it. Assumes nothing.
 use borrow.Author.Needs.{needs}
+use Rattle.table.proofs.Lookup.{scan-low, scan-high, found-low}
 use Rattle.table.proofs.scan.Statement.{statement}
 use Rattle.table.proofs.scan.Tie as tie
 
-scan-part-requires : tie.Need-scan-part-requires
-scan-part-requires c κs = search needs
+scan-few-requires : tie.Need-scan-few-requires
+scan-few-requires c κs = search needs
 
 enum-known-i : tie.Need-enum-known-i
 enum-known-i c = search needs
@@ -12,11 +13,11 @@ enum-known-i c = search needs
 enum-told : tie.Need-enum-told
 enum-told c = search needs
 
-add-scan-part : tie.Need-add-scan-part
-add-scan-part c = search needs
+add-scan-few : tie.Need-add-scan-few
+add-scan-few c = search needs
 
-scan-part-requires-2 : tie.Need-scan-part-requires-2
-scan-part-requires-2 c κs = search needs
+scan-few-requires-2 : tie.Need-scan-few-requires-2
+scan-few-requires-2 c κs = search needs
 
 returns : tie.Need-returns
 returns c = (search scan-high, search needs)
@@ -24,14 +25,46 @@ returns c = (search scan-high, search needs)
 returns-2 : tie.Need-returns-2
 returns-2 c = (search scan-low, search found-low)
 
+block-with-requires : tie.Need-block-with-requires
+block-with-requires c κs = search needs
+
+near-requires : tie.Need-near-requires
+near-requires c κs = search needs
+
+scan-below-requires : tie.Need-scan-below-requires
+scan-below-requires c κs = search needs
+
+enum-known-i-2 : tie.Need-enum-known-i-2
+enum-known-i-2 c = search needs
+
+enum-told-2 : tie.Need-enum-told-2
+enum-told-2 c = search needs
+
+scan-above-requires : tie.Need-scan-above-requires
+scan-above-requires c κs = search needs
+
+returns-3 : tie.Need-returns-3
+returns-3 c = (search scan-high, search needs)
+
+returns-4 : tie.Need-returns-4
+returns-4 c = (search scan-low, search found-low)
+
 pub scan-spec : {M : Type 1} → statement M
 scan-spec =
     tie.close
     (tie.spec
-    scan-part-requires
+    scan-few-requires
     enum-known-i
     enum-told
-    add-scan-part
-    scan-part-requires-2
+    add-scan-few
+    scan-few-requires-2
     returns
-    returns-2)
+    returns-2
+    block-with-requires
+    near-requires
+    scan-below-requires
+    enum-known-i-2
+    enum-told-2
+    scan-above-requires
+    returns-3
+    returns-4)
