@@ -10,7 +10,7 @@ ghost use Rattle.model.specs.Lent.{buffersIn, entryAt, putEntry, oldestOf, coun
 ghost use Rattle.model.specs.Cycle.{oldestEntry, popped, placedAt, placed};
 ghost use Rattle.model.specs.Range.{entryOk, entriesOk, buffersOk};
 ghost use Rattle.buffers.specs.Part.{partOk};
-ghost use Rattle.buffers.specs.Bank.{Room, Head, Buffer, HeadsIn, Quiet};
+ghost use Rattle.buffers.specs.Bank.{Room, Head, Buffer, HeadsIn, Quiet, nextWaiting};
 use map::Cell;
 use model::Entry;
 use places::next;
@@ -192,10 +192,18 @@ fn waiting_ok(s: Setup, n: u32, b: usize, entries: &[u32], heads: &[u32]) -> boo
     part_ok(&entries[from..to], k, oldest, count, n, s.c as u32)
 }
 
-// The first bank from b on where something waits, or the number of banks. At most banks nothing does as a rule.
-fn next_waiting(heads: &[u32], b: usize, banks: usize) -> usize
+// Nothing waits at four banks from b on: their counts put together are 0.
+fn four_quiet(heads: &[u32], b: usize) -> bool
+    requires { ⌜ 2 * b + 8 ≤ length (now heads) ⌝ }
+    ensures { λ yes. ⌜ (yes ≡ true → Quiet (now (heads .entry)) b (b + 4)) ⌝ }
+{
+    (count_at(heads, b) | count_at(heads, b + 1) | count_at(heads, b + 2) | count_at(heads, b + 3)) == 0
+}
+
+// The first bank from b on where something waits, or the number of banks: one by one.
+fn next_of_few(heads: &[u32], b: usize, banks: usize) -> usize
     requires { ⌜ (length (now heads) ≡ 2 * banks) × (b ≤ banks) ⌝ }
-    ensures { λ r. ⌜ Quiet (now (heads .entry)) b r × (b ≤ r) × (r ≤ banks) ⌝ }
+    ensures { λ r. ⌜ (r ≡ nextWaiting (now (heads .entry)) b (banks - b)) × (b ≤ r) × (r ≤ banks) ⌝ }
 {
     let mut i = b;
     while i < banks {
@@ -205,6 +213,22 @@ fn next_waiting(heads: &[u32], b: usize, banks: usize) -> usize
         i += 1;
     }
     i
+}
+
+// The same by fours, as long as nothing waits there: at most banks nothing does as a rule.
+pub fn next_waiting(heads: &[u32], b: usize, banks: usize) -> usize
+    requires { ⌜ (length (now heads) ≡ 2 * banks) × (b ≤ banks) ⌝ }
+    ensures { λ r. ⌜ (r ≡ nextWaiting (now (heads .entry)) b (banks - b)) × (b ≤ r) × (r ≤ banks) ⌝ }
+{
+    let mut i = b;
+    while 4 <= banks - i {
+        if four_quiet(heads, i) {
+            i += 4;
+        } else {
+            return next_of_few(heads, i, banks);
+        }
+    }
+    next_of_few(heads, i, banks)
 }
 
 // Of each of the B buffers, whose heads are in range, the entries that wait; of n words.

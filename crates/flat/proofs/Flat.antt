@@ -21,10 +21,10 @@ use Rattle.flat.proofs.Below.{said-no, and-yes, below-out, below-all, e
 ------------------------------------------------------------------------
 -- Numbers put together by or
 
-le-or-l : (a b : ℕ) → a ≤ bitOr a b
+pub le-or-l : (a b : ℕ) → a ≤ bitOr a b
 le-or-l a b = let e = or-add-and a b in let l = and-le-r a b in omega arith
 
-le-or-r : (a b : ℕ) → b ≤ bitOr a b
+pub le-or-r : (a b : ℕ) → b ≤ bitOr a b
 le-or-r a b = let e = or-add-and a b in let l = and-le-l a b in omega arith
 
 -- n numbers of f, with one more and with m more

@@ -77,11 +77,13 @@ fn joined_all(part: &[u32]) -> u32
     let n = part.len();
     let mut o: u32 = 0;
     let mut i = 0;
-    while 256 <= n - i {
+    let wide_end = steps_end(n, 256);
+    while i < wide_end {
         o = o | joined_wide(part, i);
         i = i + 256;
     }
-    while 64 <= n - i {
+    let end = steps_end(n, 64);
+    while i < end {
         o = o | joined(part, i);
         i = i + 64;
     }

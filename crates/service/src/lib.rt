@@ -3,7 +3,7 @@ ghost use mathlib.Core.Path.{_≡_};
 ghost use Prim.Native.Nat.{_*_, _≤_, _<_};
 ghost use lib.ListN.{length};
 ghost use Rattle.setup.specs.Setup.{banksOf};
-ghost use Rattle.model.specs.Lent.{lent, writeEntry, countOf};
+ghost use Rattle.model.specs.Lent.{lent, writeEntry};
 ghost use Rattle.model.specs.Cycle.{carried, servedBank, servedIf, served};
 ghost use Rattle.model.specs.Range.{Good};
 use model::Entry;
@@ -23,7 +23,7 @@ fn carry(s: Setup, e: Entry, memory: &mut [u32], rows: &mut [u32])
     table::fill(rows, s.c as usize, e.row, word);
 }
 
-// Serves bank b, where something waits: its oldest entry.
+// Serves bank b: its oldest entry, if any.
 fn serve_bank(
     s: Setup,
     b: usize,
@@ -32,15 +32,18 @@ fn serve_bank(
     entries: &[u32],
     heads: &mut [u32],
 )
-    requires { ⌜ Good s (lent (now memory) (now rows) (now entries) (now heads)) × (b < banksOf s) × (countOf (now heads) b ≡ 0 → ⊥) ⌝ }
+    requires { ⌜ Good s (lent (now memory) (now rows) (now entries) (now heads)) × (b < banksOf s) ⌝ }
     ensures { λ _. ⌜ lent (now (memory .exit)) (now (rows .exit)) (now (entries .entry)) (now (heads .exit)) ≡ servedBank s b (lent (now (memory .entry)) (now (rows .entry)) (now (entries .entry)) (now (heads .entry))) ⌝ }
 {
+    if buffers::count_at(heads, b) == 0 {
+        return;
+    }
     let e = buffers::oldest_entry(s, b, entries, heads);
     buffers::pop(s, b, heads);
     carry(s, e, memory, rows);
 }
 
-// Serves bank b if it is its turn. At most banks nothing waits as a rule, so that is looked at first.
+// Serves bank b if it is its turn.
 fn serve_if(
     s: Setup,
     turn: u32,
@@ -53,15 +56,12 @@ fn serve_if(
     requires { ⌜ Good s (lent (now memory) (now rows) (now entries) (now heads)) × (b < banksOf s) ⌝ }
     ensures { λ _. ⌜ lent (now (memory .exit)) (now (rows .exit)) (now (entries .entry)) (now (heads .exit)) ≡ servedIf s turn b (lent (now (memory .entry)) (now (rows .entry)) (now (entries .entry)) (now (heads .entry))) ⌝ }
 {
-    if buffers::count_at(heads, b) == 0 {
-        return;
-    }
     if b % (s.m as usize) == turn as usize {
         serve_bank(s, b, memory, rows, entries, heads);
     }
 }
 
-// Serves each bank whose turn it is, in rising order.
+// Serves each bank whose turn it is, in rising order. At most banks nothing waits as a rule: those are passed over.
 pub fn serve(
     s: Setup,
     turn: u32,
@@ -74,9 +74,9 @@ pub fn serve(
     ensures { λ _. ⌜ lent (now (memory .exit)) (now (rows .exit)) (now (entries .entry)) (now (heads .exit)) ≡ served s turn (lent (now (memory .entry)) (now (rows .entry)) (now (entries .entry)) (now (heads .entry))) ⌝ }
 {
     let banks = s.banks() as usize;
-    let mut b = 0;
+    let mut b = buffers::next_waiting(heads, 0, banks);
     while b < banks {
         serve_if(s, turn, b, memory, rows, entries, heads);
-        b += 1;
+        b = buffers::next_waiting(heads, b + 1, banks);
     }
 }

@@ -11,28 +11,29 @@ use Rattle.flat.proofs.joined_all.Statement.{statement}
 use Rattle.flat.proofs.joined_all.Tie as tie
 
 abbrev Inv-loop : tie.InvT-loop
-Inv-loop part n o₀ i₀ o i = (n ≡ length part) × (i ≤ n) × UpTo o part 0 i
+Inv-loop part n o₀ i₀ wide-end o i = (n ≡ length part) × (i ≤ n) × UpTo o part 0 i
 
 abbrev μ-loop : tie.MeasureT-loop
-μ-loop part n o₀ i₀ o i = n - i
+μ-loop part n o₀ i₀ wide-end o i = n - i
 
 abbrev Inv-loop2 : tie.InvT-loop2
-Inv-loop2 part n o₀ i₀ o i = (n ≡ length part) × (i ≤ n) × UpTo o part 0 i
+Inv-loop2 part n o₀ i₀ wide-end end o i = (n ≡ length part) × (i ≤ n) × UpTo o part 0 i
 
 abbrev μ-loop2 : tie.MeasureT-loop2
-μ-loop2 part n o₀ i₀ o i = n - i
+μ-loop2 part n o₀ i₀ wide-end end o i = n - i
 
 abbrev Inv-loop3 : tie.InvT-loop3
-Inv-loop3 part n o₀ i₀ o i = (n ≡ length part) × (i ≤ n) × UpTo o part 0 i
+Inv-loop3 part n o₀ i₀ wide-end end o i = (n ≡ length part) × (i ≤ n) × UpTo o part 0 i
 
 abbrev μ-loop3 : tie.MeasureT-loop3
-μ-loop3 part n o₀ i₀ o i = n - i
+μ-loop3 part n o₀ i₀ wide-end end o i = n - i
+
+steps-end-requires :
+    tie.Need-steps-end-requires Inv-loop μ-loop Inv-loop2 μ-loop2 Inv-loop3 μ-loop3
+steps-end-requires c κs = search needs
 
 loop-holds : tie.Need-loop-holds Inv-loop μ-loop Inv-loop2 μ-loop2 Inv-loop3 μ-loop3
 loop-holds c = (omega arith, omega arith, λ k h. absurd (not-suc-le-zero h))
-
-sub-loop : tie.Need-sub-loop Inv-loop μ-loop Inv-loop2 μ-loop2 Inv-loop3 μ-loop3
-sub-loop c = search needs
 
 joined-wide-requires :
     tie.Need-joined-wide-requires Inv-loop μ-loop Inv-loop2 μ-loop2 Inv-loop3 μ-loop3
@@ -47,11 +48,12 @@ loop-less c = search needs
 loop-again : tie.Need-loop-again Inv-loop μ-loop Inv-loop2 μ-loop2 Inv-loop3 μ-loop3
 loop-again c = (omega arith, omega arith, search upto-more)
 
+steps-end-requires-2 :
+    tie.Need-steps-end-requires-2 Inv-loop μ-loop Inv-loop2 μ-loop2 Inv-loop3 μ-loop3
+steps-end-requires-2 c κs = search needs
+
 loop2-holds : tie.Need-loop2-holds Inv-loop μ-loop Inv-loop2 μ-loop2 Inv-loop3 μ-loop3
 loop2-holds c = search needs
-
-sub-loop2 : tie.Need-sub-loop2 Inv-loop μ-loop Inv-loop2 μ-loop2 Inv-loop3 μ-loop3
-sub-loop2 c = search needs
 
 joined-requires : tie.Need-joined-requires Inv-loop μ-loop Inv-loop2 μ-loop2 Inv-loop3 μ-loop3
 joined-requires c κs = search needs
@@ -97,14 +99,14 @@ joined-all-spec =
     μ-loop2
     Inv-loop3
     μ-loop3
+    steps-end-requires
     loop-holds
-    sub-loop
     joined-wide-requires
     add-i
     loop-less
     loop-again
+    steps-end-requires-2
     loop2-holds
-    sub-loop2
     joined-requires
     add-i-2
     loop2-less
