@@ -75,7 +75,7 @@ ridkostan_checked ridkostan_check(ridkostan_setup setup);
 typedef struct ridkostan_lent {
     uint32_t answer;  /* RIDKOSTAN_DONE or RIDKOSTAN_BAD_SETUP; the lengths are 0 where it is refused */
     uint32_t memory;  /* N: a word a cell */
-    uint32_t rows;    /* 4*C: kind, address, word, link of each row */
+    uint32_t rows;    /* 4*C: the kinds of all rows, then their addresses, links and words */
     uint32_t entries; /* 4*B*K: kind, row, cell, word of each entry */
     uint32_t heads;   /* 2*B: oldest place and count of each bank */
 } ridkostan_lent;

@@ -1,5 +1,5 @@
 -- What follows service: what each return knows, in the order of the code, and what the calls ask. Assumes nothing.
-use Prim.Native.Nat.{ℕ, _+_, _-_, _*_, _≤_, _<_}
+use Prim.Native.Nat.{ℕ, _-_, _*_, _<_}
 use mathlib.Core.Path.{_≡_, sym, ap, subst, _∙_}
 use mathlib.Core.Bool.{Bool, true, false}
 use mathlib.Core.List.{List}
@@ -30,8 +30,6 @@ use Rattle.model.proofs.Range.{head-oldest, head-count}
 use Rattle.model.proofs.Rings.{part-within}
 use Rattle.model.proofs.Buffers.{GoodBuffers}
 use Rattle.model.proofs.Arrival.{retired-buffers-good}
-use Rattle.table.specs.Table.{Within}
-use Rattle.table.proofs.Lookup.{found-below}
 use Rattle.buffers.specs.Bank.{Head, Buffer}
 use Rattle.arrival.specs.Known.{Fit}
 
@@ -63,9 +61,6 @@ module _ (s : Setup) (rows entries heads : List ℕ) (f : Fit s rows entries hea
 pub fit-row : (s : Setup) (rows entries heads : List ℕ) (i : ℕ) → Fit s rows entries heads → i < s .c → (length rows ≡ 4 * s .c) × (i < s .c)
 fit-row s rows entries heads i f h = (f .exact .rows-long, h)
 
--- a row that a lookup found is one of the C
-pub found-row : (s : Setup) (rows entries heads : List ℕ) (i : ℕ) (f : Found) → Fit s rows entries heads → Within (s .c) f → f ≡ At i → (length rows ≡ 4 * s .c) × (i < s .c)
-found-row s rows entries heads i f g w e = (g .exact .rows-long, found-below (s .c) i f w e)
 
 ------------------------------------------------------------------------
 -- Delivery

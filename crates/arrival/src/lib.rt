@@ -82,7 +82,7 @@ fn retire_write(
     ensures { λ ok. ⌜ (ok, buffersIn (now (entries .exit)) (now (heads .exit))) ≡ retiredWrite s r (newestWrite s position (r .address) (now (rows .entry))) (buffersIn (now (entries .entry)) (now (heads .entry))) ⌝ }
 {
     let a = r.address;
-    let Found::At(_) = table::newest_write(rows, s.c as usize, position, a) else {
+    let Found::At(_) = lookup::newest_write(rows, s.c as usize, position, a) else {
         return buffers::place(s, write_entry(s, a, r.word), entries, heads);
     };
     true
@@ -181,7 +181,7 @@ fn merge_read(
     ensures { λ r. ⌜ (r, (now (rows .exit), buffersIn (now (entries .exit)) (now (heads .exit)))) ≡ readMerged s position a (newestLive s position a (now (rows .entry))) (now (rows .entry)) (buffersIn (now (entries .entry)) (now (heads .entry))) ⌝ }
 {
     let at = position as usize;
-    let Found::At(i) = table::newest_live(rows, s.c as usize, at, a) else {
+    let Found::At(i) = lookup::newest_live(rows, s.c as usize, at, a) else {
         return place_read(s, position, a, rows, entries, heads);
     };
     let r = join(a, table::row_at(rows, s.c as usize, i));

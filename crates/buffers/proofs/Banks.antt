@@ -11,7 +11,7 @@ use borrow.Rule.Slice.PartMut.{midOf, putMid}
 use Rattle.setup.specs.Setup.{wordsOf, banksOf}
 use Rattle.setup.specs.declared.Setup.{Setup}
 use Rattle.map.specs.Map.{bankOf}
-use Rattle.model.proofs.Buffers.{bank-below, placed-full, placed-room}
+use Rattle.model.proofs.Buffers.{placed-full, placed-room}
 use Rattle.model.proofs.Range.{head-oldest, head-count}
 use Rattle.model.proofs.Rings.{onward-below, part-within}
 use Rattle.model.specs.Cycle.{oldestEntry, placedAt, placed}
@@ -53,10 +53,6 @@ module _ (s : Setup) (memory rows entries heads : List ℕ) (g : Good s (lent me
 
   pub good-head : (b : ℕ) → b < banksOf s → Head s b heads
   good-head b l = good-buffer b l .head
-
-  -- every entry's bank is one of the B
-  pub good-entry-buffer : (e : Entry) → Buffer s (bankOf s (e .cell)) (buffersIn entries heads)
-  good-entry-buffer e = good-buffer (bankOf s (e .cell)) (bank-below s e (buffersIn entries heads))
 
 ------------------------------------------------------------------------
 -- What they leave

@@ -1,4 +1,4 @@
--- Four numbers at a place of a part of a room: read and put there as in the whole room, for rows and for entries. Assumes nothing.
+-- Four numbers at a place of a part of a room: read and put there as in the whole room. Assumes nothing.
 use Prim.Native.Nat.{ℕ, _+_, _*_, _≤_, _<_}
 use mathlib.Core.List.{List, [], _∷_, _++_}
 use mathlib.Core.Path.{_≡_, ap, sym, _∙_}

@@ -6,7 +6,7 @@ use mathlib.Core.List.{List}
 use mathlib.Core.Path.{_≡_, refl, sym, ap, subst, _∙_}
 use native.Mathlib.Nat.{eq-or-lt-of-le}
 use native.Mathlib.Omega.{arith}
-use lib.Dec.{leb, ltb, eqb}
+use lib.Dec.{eqb}
 use borrow.Author.Tests.{le-leb, lt-leb, lt-ltb, le-ltb, eq-eqb, ne-eqb, eqb-true}
 use borrow.Rule.Slice.PartMut.{midOf}
 use Rattle.setup.specs.Setup.{wordsOf, banksOf}
@@ -15,10 +15,11 @@ use Rattle.model.proofs.Rings.{onward-either, onward-none, onward-below, part-w
 use Rattle.model.proofs.Range.{head-ok, head-oldest, head-count, buffer-ok, buffer-head, buffers-each}
 use Rattle.model.proofs.Range as range
 use Rattle.model.proofs.Tests.{pick-either, below-or-not}
-use Rattle.flat.specs.Flat.{pairsBelow, pairsTold, foursBelow}
-use Rattle.flat.specs.declared.Told.{Told}
+use Rattle.lanes.specs.Lanes.{pairsBelow, pairsTold, foursBelow}
+use Rattle.lanes.specs.declared.Told.{Told}
 use lib.Bits.{bitOr}
-use Rattle.flat.proofs.Flat.{le-or-l, le-or-r, pairs-each, pairs-every, fours-each}
+use Rattle.flat.proofs.Flat.{le-or-l, le-or-r}
+use Rattle.lanes.proofs.Lanes.{pairs-each, pairs-every, fours-each}
 use Rattle.model.specs.Lent.{Buffers, buffersIn, entryWith, entryAt, oldestOf, countOf, onward}
 use Rattle.model.specs.Range.{entryOk, waitingEntry, entriesOk, headOk, bufferOk, buffersOk}
 use Rattle.model.specs.declared.Entry.{Entry}

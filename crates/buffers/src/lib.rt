@@ -262,7 +262,7 @@ fn all_ok(s: Setup, n: u32, banks: usize, entries: &[u32], heads: &[u32]) -> boo
     ensures { λ r. ⌜ r ≡ buffersOk s (buffersIn (now (entries .entry)) (now (heads .entry))) (banksOf s) ⌝ }
 {
     if crowded(s, banks, heads) {
-        if flat::fours_below(entries, entries.len() / 4, Entry::WRITE + 1, s.c as u32, n) {
+        if lanes::fours_below(entries, entries.len() / 4, Entry::WRITE + 1, s.c as u32, n) {
             return true;
         }
     }
@@ -276,7 +276,7 @@ pub fn buffers_ok(s: Setup, n: u32, entries: &[u32], heads: &[u32]) -> bool
 {
     let banks = s.banks() as usize;
     let k = s.k as u32;
-    let told = flat::pairs(heads, banks, k, k + 1);
+    let told = lanes::pairs(heads, banks, k, k + 1);
     if told.none {
         return true;
     }

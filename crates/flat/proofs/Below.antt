@@ -16,6 +16,12 @@ and-false : (x : Bool) → false ≡ x && false
 and-false true = refl
 and-false false = refl
 
+pub and-end : (b x : Bool) → x && b ≡ b && x
+and-end true true = refl
+and-end true false = refl
+and-end false true = refl
+and-end false false = refl
+
 pub and-yes : (x y : Bool) → x && y ≡ true → (x ≡ true) × (y ≡ true)
 and-yes true y h = (refl, h)
 and-yes false y h = said-no h

@@ -1,4 +1,4 @@
--- Laws on four numbers at a place of a lent room, for rows and for entries. Assumes nothing.
+-- Laws on the numbers of a row and of an entry in a lent room. Assumes nothing.
 use Prim.Native.Nat.{ℕ, _+_, _-_, _*_, _≤_, _<_}
 use native.Mathlib.Omega.{arith}
 use mathlib.Core.Path.{_≡_, ap, sym, _∙_}
@@ -9,7 +9,7 @@ use lib.Seq.{getD-set-same, getD-set-other, ext-getD}
 use Rattle.model.specs.declared.Row.{Row}
 use Rattle.model.specs.declared.Entry.{Entry}
 use Rattle.model.proofs.Tests.{below-or-not}
-use Rattle.model.specs.Lent.{putFour, rowWith, rowAt, putRow, entryWith, entryAt, putEntry}
+use Rattle.model.specs.Lent.{putFour, rowAt, putRow, entryWith, entryAt, putEntry}
 
 ------------------------------------------------------------------------
 -- Four numbers, seen as f makes a row or an entry of them

@@ -1,15 +1,11 @@
 -- Laws on tests: joined tests, a choice by a test, and a test of every number below a bound. Assumes nothing.
-use Prim.Native.Nat.{ℕ, zero, suc, _≤_, _<_}
-use native.Mathlib.Nat.{not-suc-le-zero}
-use native.Mathlib.Omega.{arith}
-use mathlib.Core.Path.{_≡_, refl, sym, _∙_}
+use Prim.Native.Nat.{ℕ, _≤_, _<_}
+use mathlib.Core.Path.{_≡_, refl}
 use mathlib.Core.Logic.{_⊎_, inl, inr}
 use mathlib.Core.Bool.{Bool, true, false, not, _&&_, _||_}
 use lib.Dec.{ltb, eqb}
 use borrow.Author.Tests.{ltb-true, ltb-false, eqb-true, eqb-false}
-use borrow.Author.Count.{below-more}
 use Rattle.setup.specs.Choice.{pick}
-use Rattle.setup.proofs.Ranges.{and-l, and-r}
 
 ------------------------------------------------------------------------
 -- Joined tests

@@ -20,7 +20,7 @@ fn carry(s: Setup, e: Entry, memory: &mut [u32], rows: &mut [u32])
         return;
     }
     let word = memory[at];
-    table::fill(rows, s.c as usize, e.row, word);
+    filling::fill(rows, s.c as usize, e.row, word);
 }
 
 // Serves bank b: its oldest entry, if any.

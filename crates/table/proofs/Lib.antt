@@ -1,2 +1,1 @@
 mod Columns
-pub mod Lookup

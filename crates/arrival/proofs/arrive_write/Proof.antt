@@ -1,4 +1,3 @@
-use native.Mathlib.Omega.{arith}
 use Rattle.arrival.proofs.Ways.{fit-row, fit-place, write-merging, write-plain}
 use borrow.Author.Needs.{needs}
 use Rattle.arrival.proofs.arrive_write.Statement.{statement}

@@ -1,4 +1,4 @@
-use Rattle.arrival.proofs.Ways.{fit-row, deliver-row}
+use Rattle.arrival.proofs.Ways.{deliver-row}
 use borrow.Author.Needs.{needs}
 use Rattle.arrival.proofs.deliver.Statement.{statement}
 use Rattle.arrival.proofs.deliver.Tie as tie

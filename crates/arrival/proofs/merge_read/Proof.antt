@@ -1,6 +1,6 @@
 use native.Mathlib.Omega.{arith}
-use Rattle.table.proofs.Lookup.{found-below}
-use Rattle.arrival.proofs.Ways.{fit-row, found-row, merge-none, merge-found}
+use Rattle.lookup.proofs.Lookup.{found-below}
+use Rattle.arrival.proofs.Ways.{fit-row, merge-none, merge-found}
 use borrow.Author.Needs.{needs}
 use Rattle.arrival.proofs.merge_read.Statement.{statement}
 use Rattle.arrival.proofs.merge_read.Tie as tie

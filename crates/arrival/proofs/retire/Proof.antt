@@ -1,4 +1,4 @@
-use Rattle.arrival.proofs.Ways.{fit-row, retire-plain, retire-other, retire-write}
+use Rattle.arrival.proofs.Ways.{retire-plain, retire-other, retire-write}
 use borrow.Author.Needs.{needs}
 use Rattle.arrival.proofs.retire.Statement.{statement}
 use Rattle.arrival.proofs.retire.Tie as tie

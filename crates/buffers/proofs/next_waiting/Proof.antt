@@ -1,7 +1,7 @@
 -- `buffers::next_waiting` meets its contract. The loop's invariant: what is to be found is found from bank i on. Assumes nothing.
 use borrow.Author.Needs.{needs}
 use Prim.Native.Nat.{_≤_, _-_}
-use mathlib.Core.Path.{_≡_, refl, _∙_}
+use mathlib.Core.Path.{_≡_, refl}
 use native.Mathlib.Omega.{arith}
 use Rattle.buffers.specs.Bank.{nextWaiting}
 use Rattle.buffers.proofs.Waiting.{next-four}
