@@ -95,6 +95,13 @@ static struct four bits_by_four(const uint32_t *numbers, uint32_t count)
 {
     struct four bits = { 0, 0, 0, 0 };
 
+    for (; count >= BLOCK; count -= BLOCK, numbers += BLOCK)
+        for (int i = 0; i < BLOCK; i += 4) {
+            bits.a |= numbers[i];
+            bits.b |= numbers[i + 1];
+            bits.c |= numbers[i + 2];
+            bits.d |= numbers[i + 3];
+        }
     for (; count != 0; count -= 4, numbers += 4) {
         bits.a |= numbers[0];
         bits.b |= numbers[1];
@@ -250,8 +257,8 @@ static void hand_out(uint32_t *rows, uint32_t c, uint32_t place, uint32_t word)
 }
 
 /* Service: each bank whose turn it is takes the oldest entry of its buffer, if any. */
-static void serve(const ridkostan_setup *s, uint32_t turn, uint32_t *memory, uint32_t *rows,
-                  const uint32_t *entries, uint32_t *heads)
+static void serve(const ridkostan_setup *s, uint32_t turn, uint32_t *memory, uint32_t *rows, const uint32_t *entries,
+                  uint32_t *heads)
 {
     const uint32_t banks = 1u << s->s;
 
@@ -452,7 +459,6 @@ ridkostan_cycled peer_cycle(ridkostan_setup setup, ridkostan_state state, ridkos
                             uint32_t *entries, size_t entries_len,
                             uint32_t *heads, size_t heads_len)
 {
-
     if (!is_operation(operation))
         return refused(state, RIDKOSTAN_BAD_RECORD);
     if (!complete(&setup))
@@ -492,7 +498,6 @@ ridkostan_told peer_waiting(ridkostan_setup setup, ridkostan_state state, uint32
                             const uint32_t *entries, size_t entries_len,
                             const uint32_t *heads, size_t heads_len)
 {
-
     (void)memory;
     if (!complete(&setup))
         return (ridkostan_told){ RIDKOSTAN_BAD_SETUP, 0 };
