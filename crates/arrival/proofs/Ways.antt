@@ -61,7 +61,6 @@ module _ (s : Setup) (rows entries heads : List ℕ) (f : Fit s rows entries hea
 pub fit-row : (s : Setup) (rows entries heads : List ℕ) (i : ℕ) → Fit s rows entries heads → i < s .c → (length rows ≡ 4 * s .c) × (i < s .c)
 fit-row s rows entries heads i f h = (f .exact .rows-long, h)
 
-
 ------------------------------------------------------------------------
 -- Delivery
 

@@ -18,10 +18,8 @@ use Rattle.model.specs.Cycle.{oldestEntry, placedAt, placed}
 use Rattle.model.specs.Lent.{Buffers, buffersIn, lent, entryWith, entryAt, putEntry, oldestOf, countOf, putHead, onward}
 use Rattle.model.specs.Range.{Good, headOk, entriesOk}
 use Rattle.model.specs.declared.Entry.{Entry}
-use Rattle.buffers.specs.Bank.{Room, Head, Buffer, HeadsIn}
-use Rattle.buffers.specs.Part.{partOk}
+use Rattle.buffers.specs.Bank.{Room, Head, Buffer}
 use Rattle.buffers.proofs.Parts.{four-part, put-part}
-use Rattle.buffers.proofs.Waiting.{part-entries}
 
 ------------------------------------------------------------------------
 -- What they ask
@@ -39,10 +37,6 @@ module _ (s : Setup) (entries heads : List ℕ) (b : ℕ) where
             };
         part-within = omega (arith, part-within b (banksOf s) (s .k) l);
       }
-
--- a bank's buffer, where every head is in range
-pub heads-buffer : (s : Setup) (entries heads : List ℕ) (b banks : ℕ) → HeadsIn s (buffersIn entries heads) → banks ≡ banksOf s → b < banks → Buffer s b (buffersIn entries heads)
-heads-buffer s entries heads b banks g e l = room-buffer s entries heads b (g .room) (omega arith) (g .heads-ok b (omega arith))
 
 module _ (s : Setup) (memory rows entries heads : List ℕ) (g : Good s (lent memory rows entries heads)) where
   pub good-room : Room s (buffersIn entries heads)
@@ -76,13 +70,6 @@ module _ (entries : List ℕ) (b k j : ℕ) (below : j < k) where
 module _ (s : Setup) (b : ℕ) (entries heads : List ℕ) (asked : Buffer s b (buffersIn entries heads)) (oldest : ℕ) (o : oldest ≡ oldestOf heads b) where
   pub oldest-left : (e : Entry) → e ≡ entryAt (midOf (4 * (b * s .k)) (size b (s .k)) entries) oldest → e ≡ oldestEntry s b (buffersIn entries heads)
   oldest-left e r = r ∙ rw o (bank-entry entries b (s .k) (oldestOf heads b) (asked .head .oldest-below))
-
-  -- t is what the test of the waiting entries in the part answered
-  pub waiting-left : (count words : ℕ) (t : Bool) → count ≡ countOf heads b → words ≡ wordsOf s
-      → t ≡ partOk words (s .c) (s .k) oldest (midOf (4 * (b * s .k)) (size b (s .k)) entries) count
-      → t ≡ entriesOk s (buffersIn entries heads) b (countOf heads b)
-  waiting-left count words t n w r =
-      r ∙ rw (o, n, w) (part-entries s entries heads b (size b (s .k)) (omega arith) (asked .head .oldest-below) (countOf heads b) (asked .head .count-most))
 
   -- the part and the heads once the entry is placed
   pub placed-left : (e : Entry) (count : ℕ) (part heads′ : List ℕ) → count ≡ countOf heads b → countOf heads b < s .k

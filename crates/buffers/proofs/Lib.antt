@@ -1,3 +1,2 @@
 pub mod Parts
-pub mod Waiting
 pub mod Banks

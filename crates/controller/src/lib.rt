@@ -54,7 +54,7 @@ fn numbers_ok(s: Setup, t: State, rows: &[u32], entries: &[u32], heads: &[u32]) 
     let turn = (t.turn < s.m as u32) & (t.position < s.c as u32);
     let n = s.words();
     let table = table::rows_ok(rows, s.c as usize, n);
-    turn & table & buffers::buffers_ok(s, n, entries, heads)
+    turn & table & entries::buffers_ok(s, n, entries, heads)
 }
 
 // Whether the operation's address, if it has one, is below N.

@@ -10,7 +10,7 @@ use lib.Dec.{eqb}
 use lib.ListN.{getD, length}
 use borrow.Author.Tests.{ne-eqb}
 use borrow.Rule.Slice.PartMut.{midOf}
-use Rattle.flat.specs.Flat.{times}
+use Rattle.flat.specs.Flat.{block, times}
 use Rattle.flat.proofs.Parts.{part-free}
 use Rattle.model.specs.Lent.{rowAt, waitingKind}
 use Rattle.model.specs.Cycle.{lacks, filledRow, filledBelow}
@@ -80,8 +80,8 @@ and-no true = refl
 and-no false = refl
 
 -- where row p has its word and no row of a block of the links names it, as n says, the rows there lack nothing
-pub block-calm : (c p w from to low n : ℕ) (l : List ℕ) → length l ≡ 4 * c → 64 ≤ c → from ≤ to → to ≤ c → to ≤ from + 64 → low ≡ to - 64
-    → Has c p l → n ≡ times p (midOf (2 * c + low) (2 * c + low + 64 - (2 * c + low)) l) → n ≡ 0 → l ≡ filledFrom c p w from (to - from) l
+pub block-calm : (c p w from to low n : ℕ) (l : List ℕ) → length l ≡ 4 * c → block ≤ c → from ≤ to → to ≤ c → to ≤ from + block → low ≡ to - block
+    → Has c p l → n ≡ times p (midOf (2 * c + low) (2 * c + low + block - (2 * c + low)) l) → n ≡ 0 → l ≡ filledFrom c p w from (to - from) l
 block-calm c p w from to low n l long g o b t e h f z = filled-calm c p w from l (to - from) calm
   where
     calm : Calm c p l from (to - from)
@@ -92,7 +92,7 @@ block-calm c p w from to low n l long g o b t e h f z = filled-calm c p w from l
         let x : eqb (from + k) p ≡ false = ne-eqb (from + k) p d in
         let y : eqb (getD l (2 * c + (from + k)) 0) p ≡ false =
         ne-eqb (getD l (2 * c + (from + k)) 0) p
-        (part-free (2 * c + low) (2 * c + low + 64) l (omega arith) p (2 * c + (from + k)) n f z (omega arith) (omega arith)) in
+        (part-free (2 * c + low) (2 * c + low + block) l (omega arith) p (2 * c + (from + k)) n f z (omega arith) (omega arith)) in
         rw (x, y) (and-no (eqb (getD l (from + k) 0) waitingKind)))
         (same-or-not (from + k) p)
 

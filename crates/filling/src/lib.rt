@@ -3,6 +3,7 @@
 ghost use mathlib.Core.Path.{_≡_};
 ghost use Prim.Native.Nat.{_+_, _-_, _*_, _≤_, _<_};
 ghost use lib.ListN.{length};
+ghost use Rattle.flat.specs.Flat.{block};
 ghost use Rattle.model.specs.Cycle.{lacks, withWord, filledRow, filledBelow};
 ghost use Rattle.filling.specs.Filling.{Has, filledFrom};
 use model::Row;
@@ -50,10 +51,10 @@ fn fill_few(rows: &mut [u32], c: usize, from: usize, to: usize, p: u32, w: u32)
     }
 }
 
-// The rows from one place up to another that is at most 64 on, where row p has its word:
+// The rows from one place up to another that is at most a block on, where row p has its word:
 // row by row only where one of the block names row p.
 fn fill_block(rows: &mut [u32], c: usize, from: usize, to: usize, p: u32, w: u32)
-    requires { ⌜ (length (now rows) ≡ 4 * c) × (64 ≤ c) × (from ≤ to) × (to ≤ c) × (to ≤ from + 64) × (c ≤ 4096) × Has c p (now rows) ⌝ }
+    requires { ⌜ (length (now rows) ≡ 4 * c) × (block ≤ c) × (from ≤ to) × (to ≤ c) × (to ≤ from + block) × (c ≤ 4096) × Has c p (now rows) ⌝ }
     ensures { λ _. ⌜ now (rows .exit) ≡ filledFrom c p w from (to - from) (now (rows .entry)) ⌝ }
 {
     let at = 2 * c + flat::block_of(to);
@@ -66,7 +67,7 @@ fn fill_block(rows: &mut [u32], c: usize, from: usize, to: usize, p: u32, w: u32
 // The block from place i on, or what is left of it below c: no further up than that.
 fn block_above(i: usize, c: usize) -> usize
     requires { ⌜ i < c ⌝ }
-    ensures { λ r. ⌜ (i < r) × (r ≤ i + 64) × (r ≤ c) ⌝ }
+    ensures { λ r. ⌜ (i < r) × (r ≤ i + block) × (r ≤ c) ⌝ }
 {
     if c - i <= flat::BLOCK {
         return c;
@@ -76,7 +77,7 @@ fn block_above(i: usize, c: usize) -> usize
 
 // Every row, where row p has its word.
 fn fill_others(rows: &mut [u32], c: usize, p: u32, w: u32)
-    requires { ⌜ (length (now rows) ≡ 4 * c) × (64 ≤ c) × (p < c) × (c ≤ 4096) × Has c p (now rows) ⌝ }
+    requires { ⌜ (length (now rows) ≡ 4 * c) × (block ≤ c) × (p < c) × (c ≤ 4096) × Has c p (now rows) ⌝ }
     ensures { λ _. ⌜ now (rows .exit) ≡ filledBelow c p w c (now (rows .entry)) ⌝ }
 {
     let mut i = 0;

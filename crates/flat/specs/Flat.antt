@@ -9,6 +9,10 @@ use lib.ListN.{getD}
 abbrev pub block : ℕ
 block = 64
 
+-- and of a long part
+abbrev pub wide : ℕ
+wide = 256
+
 -- how many of the numbers are x
 abbrev pub oneIf : Bool → ℕ
 oneIf true = 1

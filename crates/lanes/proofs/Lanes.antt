@@ -11,7 +11,7 @@ use lib.ListN.{getD}
 use borrow.Author.Tests.{lt-ltb, le-ltb, ltb-true, eq-eqb, eqb-true}
 use Rattle.flat.proofs.Below.{said-no, and-end, and-yes, below-more, below-out, below-all, each-below, all-below}
 use Rattle.flat.proofs.Flat.{or-one, or-more}
-use Rattle.lanes.specs.Lanes.{pairsBelow, pairsTold, foursBelow, Apart, TwoTogether, ThreeTogether}
+use Rattle.lanes.specs.Lanes.{round, pairsBelow, pairsTold, foursBelow, Apart, TwoTogether, ThreeTogether}
 use Rattle.lanes.specs.declared.Told.{Told}
 
 ------------------------------------------------------------------------
@@ -52,8 +52,8 @@ module _ (at step n : ℕ) (l : List ℕ) (r : ℕ) (u : Apart at step n l r) wh
 pub apart-done : (at step n j : ℕ) (l : List ℕ) (r : ℕ) → n ≤ j → j ≤ n → Apart at step j l r → Apart at step n l r
 apart-done at step n j l r h g u = let e : j ≡ n = omega arith in subst (λ (z : ℕ). Apart at step z l r) e u
 
--- how far the j-th of 16 numbers that stand a step apart is at most
-pub apart-span : (step j : ℕ) → j < 16 → j * step ≤ 15 * step
+-- how far the j-th number of a round that stand a step apart is at most
+pub apart-span : (step j : ℕ) → j < round → j * step ≤ (round - 1) * step
 apart-span step j h = mul-le-mul-right step (omega arith)
 
 -- pairs put together: none, with the next, with m more, all
@@ -183,10 +183,10 @@ module _ (a b : ℕ) (l : List ℕ) (n x y : ℕ) (o : 0 < b) (t : TwoTogether n
       by : (u v w : Bool) → pairsBelow a 1 l n ≡ u → eqb y 0 ≡ v → w ≡ pairsBelow a b l n → w && v ≡ u
       by true false w p q r =
           let z : y ≡ 0 =
-              t .seconds .zeros (λ k h.
-                let d : 2 * k + 1 ≡ 1 + k * 2 = omega arith in
-                let s = pairs-each a 1 l n p k h in
-                subst (λ (i : ℕ). getD l i 0 ≡ 0) d (omega arith)) in
+          t .seconds .zeros (λ k h.
+          let d : 2 * k + 1 ≡ 1 + k * 2 = omega arith in
+          let s = pairs-each a 1 l n p k h in
+          subst (λ (i : ℕ). getD l i 0 ≡ 0) d (omega arith)) in
           said-no (sym q ∙ eq-eqb y 0 z)
       by true true w p q r =
           let s : pairsBelow a b l n ≡ true = pairs-every a b l n (λ i h. let f = pairs-each a 1 l n p i h in (f .0, omega arith)) in
@@ -195,10 +195,10 @@ module _ (a b : ℕ) (l : List ℕ) (n x y : ℕ) (o : 0 < b) (t : TwoTogether n
       by false true true p q r =
           let z : y ≡ 0 = eqb-true y 0 q in
           let s : pairsBelow a 1 l n ≡ true =
-              pairs-every a 1 l n (λ i h.
-                let f = pairs-each a b l n (sym r) i h in
-                let g = zero-at z i h in
-                (f .0, omega arith)) in
+          pairs-every a 1 l n (λ i h.
+          let f = pairs-each a b l n (sym r) i h in
+          let g = zero-at z i h in
+          (f .0, omega arith)) in
           said-no (sym p ∙ s)
       by false true false p q r = refl
 

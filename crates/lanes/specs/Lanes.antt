@@ -7,6 +7,10 @@ use lib.Dec.{ltb}
 use lib.ListN.{getD}
 use Rattle.lanes.specs.declared.Told.{Told}
 
+-- how many pairs or fours one look takes in
+abbrev pub round : ℕ
+round = 16
+
 -- of each of the first n pairs, the first number is below a and the second below b
 unfoldable pub pairsBelow : ℕ → ℕ → List ℕ → ℕ → Bool
 pairsBelow a b l zero = true

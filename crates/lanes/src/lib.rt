@@ -1,18 +1,21 @@
 // Flat looks at numbers that stand by twos or by fours: whether each is below its own bound.
 ghost use mathlib.Core.Path.{_≡_};
-ghost use Prim.Native.Nat.{_+_, _*_, _≤_, _<_};
+ghost use Prim.Native.Nat.{_+_, _-_, _*_, _≤_, _<_};
 ghost use lib.ListN.{length};
-ghost use Rattle.lanes.specs.Lanes.{pairsBelow, pairsTold, foursBelow, Apart, TwoTogether, ThreeTogether};
+ghost use Rattle.lanes.specs.Lanes.{round, pairsBelow, pairsTold, foursBelow, Apart, TwoTogether, ThreeTogether};
 use flat::steps_end;
 
-// At least each of 16 numbers from a place on that stand a step apart.
+// How many pairs or fours one look takes in.
+const ROUND: usize = 16;
+
+// At least each number of a round from a place on that stand a step apart.
 fn joined_apart(part: &[u32], at: usize, step: usize) -> u32
-    requires { ⌜ (at + 15 * step < length (now part)) × (step ≤ 4) ⌝ }
-    ensures { λ r. ⌜ Apart at step 16 (now (part .entry)) r ⌝ }
+    requires { ⌜ (at + (round - 1) * step < length (now part)) × (step ≤ 4) ⌝ }
+    ensures { λ r. ⌜ Apart at step round (now (part .entry)) r ⌝ }
 {
     let mut o: u32 = 0;
     let mut j = 0;
-    while j < 16 {
+    while j < ROUND {
         o = o | part[at + j * step];
         j = j + 1;
     }
@@ -32,11 +35,11 @@ fn joined_pairs(part: &[u32], n: usize) -> Pair
     let mut first: u32 = 0;
     let mut second: u32 = 0;
     let mut i = 0;
-    let end = steps_end(n, 16);
+    let end = steps_end(n, ROUND);
     while i < end {
         first = first | joined_apart(part, 2 * i, 2);
         second = second | joined_apart(part, 2 * i + 1, 2);
-        i = i + 16;
+        i = i + ROUND;
     }
     while i < n {
         first = first | part[2 * i];
@@ -102,12 +105,12 @@ fn joined_fours(part: &[u32], n: usize) -> Four
     let mut second: u32 = 0;
     let mut third: u32 = 0;
     let mut i = 0;
-    let end = steps_end(n, 16);
+    let end = steps_end(n, ROUND);
     while i < end {
         first = first | joined_apart(part, 4 * i, 4);
         second = second | joined_apart(part, 4 * i + 1, 4);
         third = third | joined_apart(part, 4 * i + 2, 4);
-        i = i + 16;
+        i = i + ROUND;
     }
     while i < n {
         first = first | part[4 * i];

@@ -12,7 +12,7 @@ use Rattle.model.specs.declared.Row.{Row}
 use Rattle.model.specs.declared.Found.{Found}
 use Rattle.model.specs.declared.Found.the-variants.{At, Nothing}
 use Rattle.model.proofs.Rings.{back-straight, back-round}
-use Rattle.flat.specs.Flat.{times}
+use Rattle.flat.specs.Flat.{block, times}
 use Rattle.lookup.specs.Lookup.{Within, Alone, Nearby, wanted}
 use Rattle.flat.proofs.Parts.{part-free, part-alone}
 use Rattle.map.specs.declared.Address.{Address}
@@ -189,35 +189,35 @@ rows-free written a c from to l o h =
     (λ (j : ℕ) (x : j < to) (y : to ≤ j + (to - from)). other-address written a (rowAt c l j) (h j (omega arith) x))
 
 -- the rows of a block, in which the address stands n times: none
-pub block-free : (written : Bool) (a : Address) (c from to n : ℕ) (l : List ℕ) → length l ≡ 4 * c → to ≡ from + 64 → to ≤ c
-    → n ≡ times (a .0) (midOf (c + from) (c + from + 64 - (c + from)) l) → n ≡ 0 → Nothing ≡ scan (wanted written a) c l (to - from) to
+pub block-free : (written : Bool) (a : Address) (c from to n : ℕ) (l : List ℕ) → length l ≡ 4 * c → to ≡ from + block → to ≤ c
+    → n ≡ times (a .0) (midOf (c + from) (c + from + block - (c + from)) l) → n ≡ 0 → Nothing ≡ scan (wanted written a) c l (to - from) to
 block-free written a c from to n l long e b f z =
     rows-free written a c from to l (omega arith) (λ j x y.
-      part-free (c + from) (c + from + 64) l (omega arith) (a .0) (c + j) n f z (omega arith) (omega arith))
+    part-free (c + from) (c + from + block) l (omega arith) (a .0) (c + j) n f z (omega arith) (omega arith))
 
 -- no rows
 pub rest-none : (written : Bool) (a : Address) (c from to : ℕ) (l : List ℕ) → to ≤ from → Nothing ≡ scan (wanted written a) c l (to - from) to
 rest-none written a c from to l h = sym (scan-none (wanted written a) c l (to - from) to (omega arith))
 
 -- the rows below `to` of a block, in which the address stands n times: none
-pub rest-free : (written : Bool) (a : Address) (c from to low n : ℕ) (l : List ℕ) → length l ≡ 4 * c → 64 ≤ c → from < to → to ≤ c → to ≤ from + 64 → low ≡ to - 64
-    → n ≡ times (a .0) (midOf (c + low) (c + low + 64 - (c + low)) l) → n ≡ 0 → Nothing ≡ scan (wanted written a) c l (to - from) to
+pub rest-free : (written : Bool) (a : Address) (c from to low n : ℕ) (l : List ℕ) → length l ≡ 4 * c → block ≤ c → from < to → to ≤ c → to ≤ from + block → low ≡ to - block
+    → n ≡ times (a .0) (midOf (c + low) (c + low + block - (c + low)) l) → n ≡ 0 → Nothing ≡ scan (wanted written a) c l (to - from) to
 rest-free written a c from to low n l long g o b t e f z =
     rows-free written a c from to l (omega arith) (λ j x y.
-      part-free (c + low) (c + low + 64) l (omega arith) (a .0) (c + j) n f z (omega arith) (omega arith))
+    part-free (c + low) (c + low + block) l (omega arith) (a .0) (c + j) n f z (omega arith) (omega arith))
 
 -- the address stands n times in the block from `low` on: not at all, or at the position alone
-module _ (c position low a n : ℕ) (l : List ℕ) (long : length l ≡ 4 * c) (o : low ≤ position) (p : position < low + 64) (b : low + 64 ≤ c)
-    (f : n ≡ times a (midOf (c + low) (c + low + 64 - (c + low)) l)) where
+module _ (c position low a n : ℕ) (l : List ℕ) (long : length l ≡ 4 * c) (o : low ≤ position) (p : position < low + block) (b : low + block ≤ c)
+    (f : n ≡ times a (midOf (c + low) (c + low + block - (c + low)) l)) where
   pub near-none : ltb 0 n ≡ false → Alone c position low a l
   near-none h j x y d q =
       let z : n ≤ 0 = ltb-false 0 n h in
-      part-free (c + low) (c + low + 64) l (omega arith) a (c + j) n f (omega arith) (omega arith) (omega arith) q
+      part-free (c + low) (c + low + block) l (omega arith) a (c + j) n f (omega arith) (omega arith) (omega arith) q
 
   pub near-own : getD l (c + position) 0 ≡ a → ltb 1 n ≡ false → Alone c position low a l
   near-own e h j x y d q =
       let z : n ≤ 1 = ltb-false 1 n h in
-      part-alone (c + low) (c + low + 64) l (omega arith) a (c + j) (c + position) n f z (omega arith) (omega arith) (omega arith) (omega arith)
+      part-alone (c + low) (c + low + block) l (omega arith) a (c + j) (c + position) n f z (omega arith) (omega arith) (omega arith) (omega arith)
       (λ s. d (omega arith)) e q
 
 -- the rows of the block with the position, then those of the blocks below; those of the blocks above, then those of the block.
@@ -230,13 +230,13 @@ module _ (written : Bool) (a : Address) (c position low : ℕ) (l : List ℕ) (n
     pub below-on : (q : Found) → r ≡ Nothing → q ≡ scan (wanted written a) c l (low - 0) low → q ≡ scan (wanted written a) c l (position - 0) position
     below-on q e p = lower-rest (wanted written a) c l 0 low position r (omega arith) (g .from) h q e p
 
-  module _ (r : Found) (h : r ≡ scan (wanted written a) c l (c - (low + 64)) c) where
+  module _ (r : Found) (h : r ≡ scan (wanted written a) c l (c - (low + block)) c) where
     pub above-found : (j : ℕ) → r ≡ At j → At j ≡ scan (wanted written a) c l (c - (position + 1)) c
-    above-found j e = let o = g .to in upper-found (wanted written a) c l (position + 1) (low + 64) c r (omega arith) (g .within) h j e
+    above-found j e = let o = g .to in upper-found (wanted written a) c l (position + 1) (low + block) c r (omega arith) (g .within) h j e
 
-    pub above-on : (q : Found) → r ≡ Nothing → q ≡ scan (wanted written a) c l (low + 64 - (position + 1)) (low + 64)
+    pub above-on : (q : Found) → r ≡ Nothing → q ≡ scan (wanted written a) c l (low + block - (position + 1)) (low + block)
         → q ≡ scan (wanted written a) c l (c - (position + 1)) c
-    above-on q e p = let o = g .to in lower-rest (wanted written a) c l (position + 1) (low + 64) c r (omega arith) (g .within) h q e p
+    above-on q e p = let o = g .to in lower-rest (wanted written a) c l (position + 1) (low + block) c r (omega arith) (g .within) h q e p
 
   -- where the address stands at the position alone, the block gives nothing
   module _ (n : near ≡ false) where
@@ -246,8 +246,8 @@ module _ (written : Bool) (a : Address) (c position low : ℕ) (l : List ℕ) (n
         let t = g .to in
         below-on Nothing (rows-free written a c low position l o (λ j x y. g .alone n j x (omega arith) (λ e. omega arith))) q refl p
 
-    pub above-rest : (r : Found) → r ≡ scan (wanted written a) c l (c - (low + 64)) c → r ≡ Nothing → Nothing ≡ scan (wanted written a) c l (c - (position + 1)) c
+    pub above-rest : (r : Found) → r ≡ scan (wanted written a) c l (c - (low + block)) c → r ≡ Nothing → Nothing ≡ scan (wanted written a) c l (c - (position + 1)) c
     above-rest r h e =
         let o = g .from in
         let t = g .to in
-        above-on r h Nothing e (rows-free written a c (position + 1) (low + 64) l (omega arith) (λ j x y. g .alone n j (omega arith) y (λ z. omega arith)))
+        above-on r h Nothing e (rows-free written a c (position + 1) (low + block) l (omega arith) (λ j x y. g .alone n j (omega arith) y (λ z. omega arith)))

@@ -21,7 +21,7 @@ abbrev pub Within : ℕ → Found → Type 0
 Within c (At i) = i < c
 Within c Nothing = Unit
 
--- of the 64 rows from place `low` on, none but the row at the position has this address
+-- of the rows of the block from place `low` on, none but the row at the position has this address
 abbrev pub Alone : ℕ → ℕ → ℕ → ℕ → List ℕ → Type 0
 Alone c position low a l = (j : ℕ) → low ≤ j → j < low + block → (j ≡ position → ⊥) → getD l (c + j) 0 ≡ a → ⊥
 

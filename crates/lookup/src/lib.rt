@@ -4,6 +4,7 @@ ghost use mathlib.Core.Path.{_≡_};
 ghost use mathlib.Core.Bool.{false};
 ghost use Prim.Native.Nat.{_+_, _-_, _*_, _≤_, _<_};
 ghost use lib.ListN.{length};
+ghost use Rattle.flat.specs.Flat.{block};
 ghost use Rattle.model.specs.Lent.{rowAt};
 ghost use Rattle.model.specs.Cycle.{scan, isOf, writes};
 ghost use Rattle.lookup.specs.Lookup.{wanted, Within, Alone, Nearby};
@@ -44,9 +45,9 @@ fn scan_few(rows: &[u32], c: usize, from: usize, to: usize, a: Address, written:
     Found::Nothing
 }
 
-// The last such row of the 64 from a place on: row by row only where one of them has the address.
+// The last such row of a block: row by row only where one of them has the address.
 fn scan_block(rows: &[u32], c: usize, from: usize, to: usize, a: Address, written: bool) -> Found
-    requires { ⌜ (length (now rows) ≡ 4 * c) × (to ≡ from + 64) × (to ≤ c) ⌝ }
+    requires { ⌜ (length (now rows) ≡ 4 * c) × (to ≡ from + block) × (to ≤ c) ⌝ }
     ensures { λ r. ⌜ (r ≡ scan (wanted written a) c (now (rows .entry)) (to - from) to) × Within to r ⌝ }
 {
     let at = c + from;
@@ -56,9 +57,9 @@ fn scan_block(rows: &[u32], c: usize, from: usize, to: usize, a: Address, writte
     scan_few(rows, c, from, to, a, written)
 }
 
-// The last such row from one place up to another, fewer than 64 on: row by row only where a block that they are in has the address.
+// The last such row from one place up to another, fewer than a block on: row by row only where a block that they are in has the address.
 fn scan_rest(rows: &[u32], c: usize, from: usize, to: usize, a: Address, written: bool) -> Found
-    requires { ⌜ (length (now rows) ≡ 4 * c) × (64 ≤ c) × (from ≤ to) × (to ≤ c) × (to ≤ from + 64) ⌝ }
+    requires { ⌜ (length (now rows) ≡ 4 * c) × (block ≤ c) × (from ≤ to) × (to ≤ c) × (to ≤ from + block) ⌝ }
     ensures { λ r. ⌜ (r ≡ scan (wanted written a) c (now (rows .entry)) (to - from) to) × Within to r ⌝ }
 {
     if to <= from {
@@ -73,7 +74,7 @@ fn scan_rest(rows: &[u32], c: usize, from: usize, to: usize, a: Address, written
 
 // The last such row from one place up to another: straight down by blocks, so that no step has to look for the end of the table.
 fn scan_part(rows: &[u32], c: usize, from: usize, to: usize, a: Address, written: bool) -> Found
-    requires { ⌜ (length (now rows) ≡ 4 * c) × (64 ≤ c) × (from ≤ to) × (to ≤ c) ⌝ }
+    requires { ⌜ (length (now rows) ≡ 4 * c) × (block ≤ c) × (from ≤ to) × (to ≤ c) ⌝ }
     ensures { λ r. ⌜ (r ≡ scan (wanted written a) c (now (rows .entry)) (to - from) to) × Within to r ⌝ }
 {
     let mut i = to;
@@ -89,8 +90,8 @@ fn scan_part(rows: &[u32], c: usize, from: usize, to: usize, a: Address, written
 
 // Where a block with the row at the position begins.
 fn block_with(position: usize, c: usize) -> usize
-    requires { ⌜ (64 ≤ c) × (position < c) ⌝ }
-    ensures { λ r. ⌜ (r ≤ position) × (position < r + 64) × (r + 64 ≤ c) ⌝ }
+    requires { ⌜ (block ≤ c) × (position < c) ⌝ }
+    ensures { λ r. ⌜ (r ≤ position) × (position < r + block) × (r + block ≤ c) ⌝ }
 {
     let low = position - position % flat::BLOCK;
     if c - low < flat::BLOCK {
@@ -101,7 +102,7 @@ fn block_with(position: usize, c: usize) -> usize
 
 // Whether a row of the block from place `low` on, other than the row at the position, has the address.
 fn near(rows: &[u32], c: usize, position: usize, low: usize, a: Address) -> bool
-    requires { ⌜ (length (now rows) ≡ 4 * c) × (low ≤ position) × (position < low + 64) × (low + 64 ≤ c) ⌝ }
+    requires { ⌜ (length (now rows) ≡ 4 * c) × (low ≤ position) × (position < low + block) × (low + block ≤ c) ⌝ }
     ensures { λ yes. ⌜ (yes ≡ false → Alone c position low (a .0) (now (rows .entry))) ⌝ }
 {
     let at = c + low;
@@ -113,7 +114,15 @@ fn near(rows: &[u32], c: usize, position: usize, low: usize, a: Address) -> bool
 }
 
 // The last such row below the position: row by row in its own block only where that is known to have one.
-fn scan_below(rows: &[u32], c: usize, position: usize, low: usize, there: bool, a: Address, written: bool) -> Found
+fn scan_below(
+    rows: &[u32],
+    c: usize,
+    position: usize,
+    low: usize,
+    there: bool,
+    a: Address,
+    written: bool,
+) -> Found
     requires { ⌜ Nearby c position low (a .0) (now rows) there ⌝ }
     ensures { λ r. ⌜ (r ≡ scan (wanted written a) c (now (rows .entry)) (position - 0) position) × Within position r ⌝ }
 {
@@ -127,7 +136,15 @@ fn scan_below(rows: &[u32], c: usize, position: usize, low: usize, there: bool, 
 }
 
 // The last such row above the position: its own block comes last.
-fn scan_above(rows: &[u32], c: usize, position: usize, low: usize, there: bool, a: Address, written: bool) -> Found
+fn scan_above(
+    rows: &[u32],
+    c: usize,
+    position: usize,
+    low: usize,
+    there: bool,
+    a: Address,
+    written: bool,
+) -> Found
     requires { ⌜ Nearby c position low (a .0) (now rows) there ⌝ }
     ensures { λ r. ⌜ (r ≡ scan (wanted written a) c (now (rows .entry)) (c - (position + 1)) c) × Within c r ⌝ }
 {

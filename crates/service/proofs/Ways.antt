@@ -6,8 +6,8 @@ use native.Mathlib.Omega.{arith}
 use lib.Dec.{eqb}
 use lib.ListN.{length, getD, set}
 use Rattle.model.proofs.Tests.{pick-good}
-use Rattle.buffers.specs.Bank.{nextWaiting}
-use Rattle.buffers.proofs.Waiting.{found-quiet}
+use Rattle.entries.specs.Entries.{nextWaiting}
+use Rattle.entries.proofs.Waiting.{found-quiet}
 use Rattle.setup.specs.declared.Setup.{Setup}
 use Rattle.setup.specs.Setup.{banksOf}
 use Rattle.model.specs.declared.Entry.{Entry}

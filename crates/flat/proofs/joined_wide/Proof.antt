@@ -3,16 +3,16 @@ use borrow.Author.Needs.{needs}
 use Prim.Native.Nat.{_-_, _≤_}
 use native.Mathlib.Nat.{not-suc-le-zero}
 use native.Mathlib.Omega.{arith}
-use Rattle.flat.specs.Flat.{UpTo}
+use Rattle.flat.specs.Flat.{wide, UpTo}
 use Rattle.flat.proofs.Flat.{upto-one}
 use Rattle.flat.proofs.joined_wide.Statement.{statement}
 use Rattle.flat.proofs.joined_wide.Tie as tie
 
 abbrev Inv-loop : tie.InvT-loop
-Inv-loop part at o₀ j₀ o j = (j ≤ 256) × UpTo o part at j
+Inv-loop part at o₀ j₀ o j = (j ≤ wide) × UpTo o part at j
 
 abbrev μ-loop : tie.MeasureT-loop
-μ-loop part at o₀ j₀ o j = 256 - j
+μ-loop part at o₀ j₀ o j = wide - j
 
 loop-holds : tie.Need-loop-holds Inv-loop μ-loop
 loop-holds c = (omega arith, λ k h. absurd (not-suc-le-zero h))

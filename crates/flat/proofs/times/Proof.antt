@@ -4,16 +4,16 @@ use Prim.Native.Nat.{_-_, _≤_}
 use mathlib.Core.Path.{_≡_}
 use lib.ListN.{take}
 use native.Mathlib.Omega.{arith}
-use Rattle.flat.specs.Flat.{times}
+use Rattle.flat.specs.Flat.{block, times}
 use Rattle.flat.proofs.Flat.{times-none, times-next, times-all}
 use Rattle.flat.proofs.times.Statement.{statement}
 use Rattle.flat.proofs.times.Tie as tie
 
 abbrev Inv-loop : tie.InvT-loop
-Inv-loop part x n₀ j₀ n j = (j ≤ 64) × (n ≤ j) × (n ≡ times x (take j part))
+Inv-loop part x n₀ j₀ n j = (j ≤ block) × (n ≤ j) × (n ≡ times x (take j part))
 
 abbrev μ-loop : tie.MeasureT-loop
-μ-loop part x n₀ j₀ n j = 64 - j
+μ-loop part x n₀ j₀ n j = block - j
 
 loop-holds : tie.Need-loop-holds Inv-loop μ-loop
 loop-holds c = (omega arith, omega arith, search times-none)

@@ -2,16 +2,16 @@
 use borrow.Author.Needs.{needs}
 use Prim.Native.Nat.{_-_, _≤_}
 use native.Mathlib.Omega.{arith}
-use Rattle.lanes.specs.Lanes.{Apart}
+use Rattle.lanes.specs.Lanes.{round, Apart}
 use Rattle.lanes.proofs.Lanes.{apart-none, apart-one, apart-done, apart-span}
 use Rattle.lanes.proofs.joined_apart.Statement.{statement}
 use Rattle.lanes.proofs.joined_apart.Tie as tie
 
 abbrev Inv-loop : tie.InvT-loop
-Inv-loop part at step o₀ j₀ o j = (j ≤ 16) × Apart at step j part o
+Inv-loop part at step o₀ j₀ o j = (j ≤ round) × Apart at step j part o
 
 abbrev μ-loop : tie.MeasureT-loop
-μ-loop part at step o₀ j₀ o j = 16 - j
+μ-loop part at step o₀ j₀ o j = round - j
 
 loop-holds : tie.Need-loop-holds Inv-loop μ-loop
 loop-holds c = (omega arith, search apart-none)

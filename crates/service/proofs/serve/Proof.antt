@@ -44,14 +44,13 @@ loop-less : tie.Need-loop-less Inv-loop μ-loop
 loop-less c = search needs
 
 loop-again : tie.Need-loop-again Inv-loop μ-loop
-loop-again c =
-    (
-      omega arith,
-      search needs,
-      search needs,
-      search needs,
-      below-next _ _ _ _ _ _ _ _ _ _ _ (c .before .before .before .before .before .before .before .before .before .before .before .before .before .loop .inv .4) (c .before .before .before .before .before .before .before .before .serve-if .ensures) (c .next-waiting2 .ensures .1) (c .next-waiting2 .ensures .0),
-    )
+loop-again c = (
+  omega arith,
+  search needs,
+  search needs,
+  search needs,
+  below-next _ _ _ _ _ _ _ _ _ _ _ (c .before .before .before .before .before .before .before .before .before .before .before .before .before .loop .inv .4) (c .before .before .before .before .before .before .before .before .serve-if .ensures) (c .next-waiting2 .ensures .1) (c .next-waiting2 .ensures .0),
+)
 
 same-length : tie.Need-same-length Inv-loop μ-loop
 same-length c = search needs

@@ -1,0 +1,291 @@
+-- The waiting entries: how the tests of a buffer and of all go on and end, and that a bank's part has what waits at the bank. Assumes nothing.
+use Prim.Native.Nat.{ℕ, zero, suc, _+_, _-_, _*_, _/_, _≤_, _<_}
+use mathlib.Core.Bool.{Bool, true, false, not, _&&_, _||_}
+use mathlib.Core.Logic.{⊎-elim}
+use mathlib.Core.List.{List}
+use mathlib.Core.Path.{_≡_, refl, sym, ap, subst, _∙_}
+use native.Mathlib.Nat.{eq-or-lt-of-le}
+use native.Mathlib.Omega.{arith}
+use lib.Dec.{eqb}
+use borrow.Author.Tests.{le-leb, lt-leb, lt-ltb, le-ltb, eq-eqb, ne-eqb, eqb-true}
+use borrow.Rule.Slice.PartMut.{midOf}
+use Rattle.setup.specs.Setup.{wordsOf, banksOf}
+use Rattle.setup.specs.declared.Setup.{Setup}
+use Rattle.model.proofs.Rings.{onward-either, onward-none, onward-below, part-within}
+use Rattle.model.proofs.Range.{head-ok, head-oldest, head-count, buffer-ok, buffer-head, buffers-each}
+use Rattle.model.proofs.Range as range
+use Rattle.model.proofs.Tests.{pick-either, below-or-not}
+use Rattle.lanes.specs.Lanes.{pairsBelow, pairsTold, foursBelow}
+use Rattle.lanes.specs.declared.Told.{Told}
+use lib.Bits.{bitOr}
+use Rattle.flat.proofs.Flat.{le-or-l, le-or-r}
+use Rattle.lanes.proofs.Lanes.{pairs-each, pairs-every, fours-each}
+use Rattle.model.specs.Lent.{Buffers, buffersIn, entryWith, entryAt, oldestOf, countOf, onward}
+use Rattle.model.specs.Range.{entryOk, waitingEntry, entriesOk, headOk, bufferOk, buffersOk}
+use Rattle.model.specs.declared.Entry.{Entry}
+use Rattle.flat.proofs.Below.{said-no, below-more, below-out, below-all}
+use lib.ListN.{length}
+use Rattle.setup.proofs.Ranges.{banks-least}
+use Rattle.buffers.specs.Bank.{Room, Buffer}
+use Rattle.entries.specs.Entries.{partOk, HeadsIn, Quiet, nextWaiting}
+use Rattle.buffers.proofs.Parts.{four-part}
+use Rattle.buffers.proofs.Banks.{size, room-buffer}
+
+------------------------------------------------------------------------
+-- The entries of a part, from the oldest on. The place of entry i is at, and t says whether it is in range
+
+one-on : (c i n : ℕ) → i < c → n < c → onward c (onward c i n) 1 ≡ onward c i (n + 1)
+one-on c i n h l =
+    ⊎-elim
+    (λ u. ⊎-elim
+    (λ v. ⊎-elim (λ w. omega arith) (λ w. omega arith) (onward-either c i (n + 1)))
+    (λ v. ⊎-elim (λ w. omega arith) (λ w. omega arith) (onward-either c i (n + 1)))
+    (onward-either c (onward c i n) 1))
+    (λ u. ⊎-elim
+    (λ v. ⊎-elim (λ w. omega arith) (λ w. omega arith) (onward-either c i (n + 1)))
+    (λ v. ⊎-elim (λ w. omega arith) (λ w. omega arith) (onward-either c i (n + 1)))
+    (onward-either c (onward c i n) 1))
+    (onward-either c i n)
+
+pub at-first : (k oldest : ℕ) → oldest < k → oldest ≡ onward k oldest 0
+at-first k oldest h = sym (onward-none k oldest h)
+
+pub at-next : (k oldest count i at next : ℕ) → oldest < k → count ≤ k → i < count → at ≡ onward k oldest i → next ≡ onward k at 1 → next ≡ onward k oldest (i + 1)
+at-next k oldest count i at next h g l e n = n ∙ ap (λ (x : ℕ). onward k x 1) e ∙ one-on k oldest i h (omega arith)
+
+module _ (n c k oldest : ℕ) (part : List ℕ) where
+  pub part-more : (i at : ℕ) (t : Bool) → partOk n c k oldest part i ≡ true → at ≡ onward k oldest i → t ≡ entryOk n c (entryAt part at) → t ≡ true
+      → partOk n c k oldest part (i + 1) ≡ true
+  unfolding partOk
+  part-more i at t h q e x = below-more (λ (j : ℕ). entryOk n c (entryAt part (onward k oldest j))) (partOk n c k oldest part) (λ j. refl) i h (cc)
+
+  pub part-out : (i m at : ℕ) (t : Bool) → i < m → at ≡ onward k oldest i → t ≡ entryOk n c (entryAt part at) → t ≡ false
+      → false ≡ partOk n c k oldest part m
+  unfolding partOk
+  part-out i m at t h q e x = below-out (λ (j : ℕ). entryOk n c (entryAt part (onward k oldest j))) (partOk n c k oldest part) (λ j. refl) i m h (cc)
+
+  pub part-all : (i m : ℕ) → m ≤ i → i ≤ m → partOk n c k oldest part i ≡ true → true ≡ partOk n c k oldest part m
+  unfolding partOk
+  part-all = below-all (λ (j : ℕ). entryOk n c (entryAt part (onward k oldest j))) (partOk n c k oldest part) (λ j. refl)
+
+------------------------------------------------------------------------
+-- Banks where nothing waits
+
+next-quiet : (heads : List ℕ) (b n : ℕ) → Quiet heads b (nextWaiting heads b n)
+unfolding nextWaiting
+next-quiet heads b zero = λ i h l. absurd (omega arith)
+next-quiet heads b (suc n) =
+    pick-either (Quiet heads b) (eqb (countOf heads b) 0)
+    (λ e i h l. ⊎-elim
+    (λ (q : b ≡ i). subst (λ (z : ℕ). countOf heads z ≡ 0) q (eqb-true (countOf heads b) 0 e))
+    (λ (q : b < i). next-quiet heads (suc b) n i q l)
+    (eq-or-lt-of-le h))
+    (λ e i h l. absurd (omega arith))
+
+-- up to what was found
+pub found-quiet : (heads : List ℕ) (b n r : ℕ) → r ≡ nextWaiting heads b n → Quiet heads b r
+found-quiet heads b n r e = rw e (next-quiet heads b n)
+
+-- from bank i on, of the banks below k: m is its count, and r what is to be found
+module _ (heads : List ℕ) (i k r : ℕ) (h : nextWaiting heads i (k - i) ≡ r) where
+  pub next-here : (m : ℕ) → i < k → m ≡ countOf heads i → (m ≡ 0 → ⊥) → i ≡ r
+  unfolding nextWaiting
+  next-here m l e n =
+      let s : k - i ≡ suc (k - i - 1) = omega arith in
+      let z : eqb (countOf heads i) 0 ≡ false = ne-eqb (countOf heads i) 0 (λ q. n (e ∙ q)) in
+      let y : nextWaiting heads i (suc (k - i - 1)) ≡ i = rw z in
+      sym y ∙ ap (nextWaiting heads i) (sym s) ∙ h
+
+  pub next-on : (m : ℕ) → i < k → m ≡ countOf heads i → m ≡ 0 → nextWaiting heads (i + 1) (k - (i + 1)) ≡ r
+  unfolding nextWaiting
+  next-on m l e n =
+      let s : k - i ≡ suc (k - (i + 1)) = omega arith in
+      let z : eqb (countOf heads i) 0 ≡ true = eq-eqb (countOf heads i) 0 (sym e ∙ n) in
+      let y : nextWaiting heads i (suc (k - (i + 1))) ≡ nextWaiting heads (suc i) (k - (i + 1)) = rw z in
+      let d : i + 1 ≡ suc i = omega arith in
+      ap (λ (z : ℕ). nextWaiting heads z (k - (i + 1))) d ∙ sym y ∙ ap (nextWaiting heads i) (sym s) ∙ h
+
+  pub next-end : k ≤ i → i ≡ r
+  unfolding nextWaiting
+  next-end l = let s : k - i ≡ 0 = omega arith in ap (nextWaiting heads i) (sym s) ∙ h
+
+-- four banks more at which nothing waits; y says so
+pub next-four : (heads : List ℕ) (i k r : ℕ) (y : Bool) → nextWaiting heads i (k - i) ≡ r → 4 ≤ k - i → (y ≡ true → Quiet heads i (i + 4)) → y ≡ true
+    → nextWaiting heads (i + 4) (k - (i + 4)) ≡ r
+next-four heads i k r y h l q e =
+    let z : Quiet heads i (i + 4) = q e in
+    let a = next-on heads i k r h (countOf heads i) (omega arith) refl (z i (omega arith) (omega arith)) in
+    let b = next-on heads (i + 1) k r a (countOf heads (i + 1)) (omega arith) refl (z (i + 1) (omega arith) (omega arith)) in
+    let c = next-on heads (i + 1 + 1) k r b (countOf heads (i + 1 + 1)) (omega arith) refl (z (i + 1 + 1) (omega arith) (omega arith)) in
+    let d = next-on heads (i + 1 + 1 + 1) k r c (countOf heads (i + 1 + 1 + 1)) (omega arith) refl (z (i + 1 + 1 + 1) (omega arith) (omega arith)) in
+    let n : i + 1 + 1 + 1 + 1 ≡ i + 4 = omega arith in
+    subst (λ (j : ℕ). nextWaiting heads j (k - j) ≡ r) n d
+
+-- four counts whose bits put together are none
+or-none : (a b : ℕ) → bitOr a b ≡ 0 → (a ≡ 0) × (b ≡ 0)
+or-none a b h = let p = le-or-l a b in let q = le-or-r a b in (omega arith, omega arith)
+
+pub quiet-four : (heads : List ℕ) (b w x y z : ℕ) → w ≡ countOf heads b → x ≡ countOf heads (b + 1) → y ≡ countOf heads (b + 2) → z ≡ countOf heads (b + 3)
+    → eqb (bitOr (bitOr (bitOr w x) y) z) 0 ≡ true → Quiet heads b (b + 4)
+quiet-four heads b w x y z ew ex ey ez h i l m =
+    let p = or-none (bitOr (bitOr w x) y) z (eqb-true (bitOr (bitOr (bitOr w x) y) z) 0 h) in
+    let q = or-none (bitOr w x) y (p .0) in
+    let r = or-none w x (q .0) in
+    by (i - b) (omega arith) (omega arith) (sym ew ∙ r .0) (sym ex ∙ r .1) (sym ey ∙ q .1) (sym ez ∙ p .1)
+  where
+    at : (k : ℕ) → i ≡ k → countOf heads k ≡ 0 → countOf heads i ≡ 0
+    at k e g = rw e g
+
+    by : (k : ℕ) → k < 4 → i ≡ b + k → countOf heads b ≡ 0 → countOf heads (b + 1) ≡ 0 → countOf heads (b + 2) ≡ 0 → countOf heads (b + 3) ≡ 0 → countOf heads i ≡ 0
+    by zero n e f₀ f₁ f₂ f₃ = at b (omega arith) f₀
+    by (suc zero) n e f₀ f₁ f₂ f₃ = at (b + 1) (omega arith) f₁
+    by (suc (suc zero)) n e f₀ f₁ f₂ f₃ = at (b + 2) (omega arith) f₂
+    by (suc (suc (suc zero))) n e f₀ f₁ f₂ f₃ = at (b + 3) (omega arith) f₃
+    by (suc (suc (suc (suc k)))) n e f₀ f₁ f₂ f₃ = absurd (omega arith)
+
+------------------------------------------------------------------------
+-- The buffers of the k banks, from the first on, where every head is in range. t says whether what waits at bank b is
+
+module _ (s : Setup) (q : Buffers) (g : HeadsIn s q) where
+  waited : (b : ℕ) (t : Bool) → b < banksOf s → t ≡ entriesOk s q b (countOf (q .heads) b) → bufferOk s q b ≡ t
+  waited b t l e = rw (g .heads-ok b l, e)
+
+  buffers-more : (b k : ℕ) (t : Bool) → k ≡ banksOf s → buffersOk s q b ≡ true → b < k → t ≡ entriesOk s q b (countOf (q .heads) b) → t ≡ true → buffersOk s q (b + 1) ≡ true
+  unfolding buffersOk
+  buffers-more b k t z h l e x = below-more (bufferOk s q) (buffersOk s q) (λ j. refl) b h (waited b t (omega arith) e ∙ x)
+
+  -- and the banks up to r, where nothing waits
+  quiet : (b r : ℕ) → Quiet (q .heads) b r → r ≤ banksOf s → (i : ℕ) → b ≤ i → i < r → bufferOk s q i ≡ true
+  unfolding entriesOk
+  quiet b r z l i h j = rw (g .heads-ok i (omega arith), z i h j)
+
+  buffers-quiet : (b r k : ℕ) → k ≡ banksOf s → buffersOk s q b ≡ true → Quiet (q .heads) b r → r ≤ k → buffersOk s q r ≡ true
+  buffers-quiet b r k e h z l =
+      range.buffers-all s q r (λ i j. ⊎-elim (λ x. buffers-each s q b h i x) (λ x. quiet b r z (omega arith) i x j) (below-or-not i b))
+
+  pub buffers-first : (r k n : ℕ) → k ≡ banksOf s → r ≡ nextWaiting (q .heads) 0 n → r ≤ k → buffersOk s q r ≡ true
+  unfolding buffersOk
+  buffers-first r k n e z l = buffers-quiet 0 r k e refl (found-quiet (q .heads) 0 n r z) l
+
+  pub buffers-on : (b r k n : ℕ) (t : Bool) → k ≡ banksOf s → buffersOk s q b ≡ true → b < k → t ≡ entriesOk s q b (countOf (q .heads) b) → t ≡ true
+      → r ≡ nextWaiting (q .heads) (b + 1) n → r ≤ k → buffersOk s q r ≡ true
+  buffers-on b r k n t e h l x y z m = buffers-quiet (b + 1) r k e (buffers-more b k t e h l x y) (found-quiet (q .heads) (b + 1) n r z) m
+
+  pub buffers-out : (b k : ℕ) (t : Bool) → k ≡ banksOf s → b < k → t ≡ entriesOk s q b (countOf (q .heads) b) → t ≡ false → false ≡ buffersOk s q (banksOf s)
+  unfolding buffersOk
+  buffers-out b k t z l e x = below-out (bufferOk s q) (buffersOk s q) (λ j. refl) b (banksOf s) (omega arith) (waited b t (omega arith) e ∙ x)
+
+pub buffers-all : (s : Setup) (q : Buffers) (b k : ℕ) → k ≡ banksOf s → k ≤ b → b ≤ k → buffersOk s q b ≡ true → true ≡ buffersOk s q (banksOf s)
+unfolding buffersOk
+buffers-all s q b k e l h = below-all (bufferOk s q) (buffersOk s q) (λ j. refl) b (banksOf s) (omega arith) (omega arith)
+
+------------------------------------------------------------------------
+-- What flat looks tell: of the heads, and of the whole entry room
+
+pub some-bank : (s : Setup) (banks : ℕ) → banks ≡ banksOf s → 0 < banks
+some-bank s banks e = rw e (banks-least s)
+
+module _ (s : Setup) (entries heads : List ℕ) (k banks : ℕ) (ek : k ≡ s .k) (eb : banks ≡ banksOf s) where
+  -- a head is in range where its pair is
+  heads-each : (m : ℕ) → m ≤ k + 1 → pairsBelow k m heads banks ≡ true → (b : ℕ) → b < banksOf s → headOk s heads b ≡ true
+  heads-each m n h b l = let p = pairs-each k m heads banks h b (omega arith) in head-ok s heads b (omega arith) (omega arith)
+
+  module _ (r : Told) (e : r ≡ pairsTold k (k + 1) heads banks) where
+    -- nothing waits
+    pub told-none : r .none ≡ true → true ≡ buffersOk s (buffersIn entries heads) (banksOf s)
+    told-none h =
+        let z : pairsBelow k 1 heads banks ≡ true = sym (ap (λ (x : Told). x .none) e) ∙ h in
+        sym (range.buffers-all s (buffersIn entries heads) (banksOf s) (λ b l.
+        let p = pairs-each k 1 heads banks z b (omega arith) in
+        buffer-ok s (buffersIn entries heads) b (heads-each 1 (omega arith) z b l) (λ i g. absurd (omega arith))))
+
+    -- every head is in range
+    pub told-below : r .below ≡ true → Room s (buffersIn entries heads) → HeadsIn s (buffersIn entries heads)
+    told-below h room = record { room = room; heads-ok = heads-each (k + 1) (omega arith) (sym (ap (λ (x : Told). x .below) e) ∙ h) }
+
+    -- one is not
+    pub told-out : r .below ≡ false → false ≡ buffersOk s (buffersIn entries heads) (banksOf s)
+    told-out h = out (buffersOk s (buffersIn entries heads) (banksOf s)) refl
+      where
+        out : (t : Bool) → buffersOk s (buffersIn entries heads) (banksOf s) ≡ t → false ≡ t
+        out false x = refl
+        out true x =
+            let y : pairsBelow k (k + 1) heads banks ≡ true =
+            pairs-every k (k + 1) heads banks (λ b l.
+            let o = buffer-head s (buffersIn entries heads) b (buffers-each s (buffersIn entries heads) (banksOf s) x b (omega arith)) in
+            let c = head-oldest s heads b o in
+            let d = head-count s heads b o in
+            (omega arith, omega arith)) in
+            let z : pairsBelow k (k + 1) heads banks ≡ false = sym (ap (λ (x : Told). x .below) e) ∙ h in
+            said-no (sym z ∙ y)
+
+-- every place of the entry room is in range
+pub all-plain : (s : Setup) (entries heads : List ℕ) (words : ℕ) (u : Bool) → HeadsIn s (buffersIn entries heads) → words ≡ wordsOf s
+    → u ≡ foursBelow 2 (s .c) words entries (length entries / 4) → u ≡ true → true ≡ buffersOk s (buffersIn entries heads) (banksOf s)
+all-plain s entries heads words u g ew eu hu =
+    let long : length entries ≡ 4 * (banksOf s * s .k) = g .room .entries-long in
+    sym (range.buffers-all s (buffersIn entries heads) (banksOf s) (λ b l.
+    buffer-ok s (buffersIn entries heads) b (g .heads-ok b l) (λ i h.
+    let o = head-oldest s heads b (g .heads-ok b l) in
+    let c = head-count s heads b (g .heads-ok b l) in
+    let j : ℕ = onward (s .k) (oldestOf heads b) i in
+    let y : j < s .k = onward-below (s .k) (oldestOf heads b) i o (omega arith) in
+    let w = part-within b (banksOf s) (s .k) l in
+    let p = fours-each 2 (s .c) words entries (length entries / 4) (sym eu ∙ hu) (b * s .k + j) (omega arith) in
+    range.entry-ok (wordsOf s) (s .c) (waitingEntry s (buffersIn entries heads) b i) (omega arith) (omega arith) (λ r. omega arith))))
+
+------------------------------------------------------------------------
+-- In the bank's part, which has m numbers
+
+module _ (s : Setup) (entries heads : List ℕ) (b m : ℕ) (wide : 4 * s .k ≤ m) (below : oldestOf heads b < s .k) where
+  -- the entries that wait there are those that wait at the bank
+  pub part-entries : (i : ℕ) → i ≤ s .k
+      → partOk (wordsOf s) (s .c) (s .k) (oldestOf heads b) (midOf (4 * (b * s .k)) m entries) i ≡ entriesOk s (buffersIn entries heads) b i
+  unfolding partOk entriesOk
+  part-entries zero h = refl
+  part-entries (suc i) h =
+      let j : ℕ = onward (s .k) (oldestOf heads b) i in
+      let l : j < s .k = onward-below (s .k) (oldestOf heads b) i below (omega arith) in
+      rw (part-entries i (omega arith))
+      (ap (λ (e : Entry). entriesOk s (buffersIn entries heads) b i && entryOk (wordsOf s) (s .c) e) (four-part (b * s .k) m entries j (omega arith) entryWith))
+
+------------------------------------------------------------------------
+-- One entry: its kind, its cell and its row, in the order of the code
+
+or-true : (x : Bool) → true ≡ x || true
+or-true true = refl
+or-true false = refl
+
+or-false : (x : Bool) → x ≡ x || false
+or-false true = refl
+or-false false = refl
+
+module _ (n c : ℕ) (e : Entry) where
+  pub entry-kind : 1 < e .kind → false ≡ entryOk n c e
+  entry-kind h = rw (lt-leb (e .kind) 1 h)
+
+  module _ (h : e .kind ≤ 1) where
+    pub entry-cell : n ≤ e .cell .0 → false ≡ entryOk n c e
+    entry-cell l = rw (le-leb (e .kind) 1 h, le-ltb (e .cell .0) n l)
+
+    module _ (l : e .cell .0 < n) where
+      pub entry-row : e .row < c → true ≡ entryOk n c e
+      entry-row r = rw (le-leb (e .kind) 1 h, lt-ltb (e .cell .0) n l, lt-ltb (e .row) c r) (or-true (not (eqb (e .kind) 0)))
+
+      pub entry-write : (t : Bool) → c ≤ e .row → t ≡ not (eqb (e .kind) 0) → t ≡ entryOk n c e
+      entry-write t r q = rw (le-leb (e .kind) 1 h, lt-ltb (e .cell .0) n l, le-ltb (e .row) c r) (q ∙ or-false (not (eqb (e .kind) 0)))
+
+------------------------------------------------------------------------
+-- A bank's buffer
+
+-- where every head is in range
+pub heads-buffer : (s : Setup) (entries heads : List ℕ) (b banks : ℕ) → HeadsIn s (buffersIn entries heads) → banks ≡ banksOf s → b < banks → Buffer s b (buffersIn entries heads)
+heads-buffer s entries heads b banks g e l = room-buffer s entries heads b (g .room) (omega arith) (g .heads-ok b (omega arith))
+
+-- oldest is the oldest place of bank b's head, and t what the test of the waiting entries in its part answered
+pub waiting-left : (s : Setup) (b : ℕ) (entries heads : List ℕ) → Buffer s b (buffersIn entries heads) → (oldest : ℕ) → oldest ≡ oldestOf heads b
+    → (count words : ℕ) (t : Bool) → count ≡ countOf heads b → words ≡ wordsOf s
+    → t ≡ partOk words (s .c) (s .k) oldest (midOf (4 * (b * s .k)) (size b (s .k)) entries) count
+    → t ≡ entriesOk s (buffersIn entries heads) b (countOf heads b)
+waiting-left s b entries heads asked oldest o count words t n w r =
+    r ∙ rw (o, n, w) (part-entries s entries heads b (size b (s .k)) (omega arith) (asked .head .oldest-below) (countOf heads b) (asked .head .count-most))
