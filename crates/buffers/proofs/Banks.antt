@@ -8,7 +8,7 @@ use lib.Dec.{eqb}
 use lib.ListN.{length}
 use borrow.Author.Tests.{eqb-true, eqb-false}
 use borrow.Rule.Slice.PartMut.{midOf, putMid}
-use Rattle.setup.specs.Setup.{wordsOf, banksOf}
+use Rattle.setup.specs.Setup.{banksOf}
 use Rattle.setup.specs.declared.Setup.{Setup}
 use Rattle.map.specs.Map.{bankOf}
 use Rattle.model.proofs.Buffers.{placed-full, placed-room}
@@ -16,7 +16,7 @@ use Rattle.model.proofs.Range.{head-oldest, head-count}
 use Rattle.model.proofs.Rings.{onward-below, part-within}
 use Rattle.model.specs.Cycle.{oldestEntry, placedAt, placed}
 use Rattle.model.specs.Lent.{Buffers, buffersIn, lent, entryWith, entryAt, putEntry, oldestOf, countOf, putHead, onward}
-use Rattle.model.specs.Range.{Good, headOk, entriesOk}
+use Rattle.model.specs.Range.{Good, headOk}
 use Rattle.model.specs.declared.Entry.{Entry}
 use Rattle.buffers.specs.Bank.{Room, Head, Buffer}
 use Rattle.buffers.proofs.Parts.{four-part, put-part}

@@ -64,7 +64,7 @@ fn fill_block(rows: &mut [u32], c: usize, from: usize, to: usize, p: u32, w: u32
     fill_few(rows, c, from, to, p, w);
 }
 
-// The block from place i on, or what is left of it below c: no further up than that.
+// Where the block from place i on ends: at c, if that comes first.
 fn block_above(i: usize, c: usize) -> usize
     requires { ⌜ i < c ⌝ }
     ensures { λ r. ⌜ (i < r) × (r ≤ i + block) × (r ≤ c) ⌝ }

@@ -1,3 +1,4 @@
+-- `arrival::arrive` meets its contract: the cases are the definition's. Assumes nothing.
 use Rattle.arrival.proofs.Ways.{fit-row, arrive-idle, arrive-reads, arrive-writes}
 use borrow.Author.Needs.{needs}
 use Rattle.arrival.proofs.arrive.Statement.{statement}

@@ -1,3 +1,4 @@
+-- `arrival::arrive_write` meets its contract in both modes. Assumes nothing.
 use Rattle.arrival.proofs.Ways.{fit-row, fit-place, write-merging, write-plain}
 use borrow.Author.Needs.{needs}
 use Rattle.arrival.proofs.arrive_write.Statement.{statement}

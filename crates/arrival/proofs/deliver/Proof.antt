@@ -1,3 +1,4 @@
+-- `arrival::deliver` meets its contract: the calls give the row. Assumes nothing.
 use Rattle.arrival.proofs.Ways.{deliver-row}
 use borrow.Author.Needs.{needs}
 use Rattle.arrival.proofs.deliver.Statement.{statement}

@@ -1,3 +1,4 @@
+-- `arrival::merge_read` meets its contract: what the lookup answered is the case of the definition. Assumes nothing.
 use native.Mathlib.Omega.{arith}
 use Rattle.lookup.proofs.Lookup.{found-below}
 use Rattle.arrival.proofs.Ways.{fit-row, merge-none, merge-found}

@@ -1,3 +1,4 @@
+-- `arrival::place_read` meets its contract: the row is noted as its entry found a place or not. Assumes nothing.
 use Rattle.arrival.proofs.Ways.{fit-row, fit-place, place-seated}
 use borrow.Author.Needs.{needs}
 use Rattle.arrival.proofs.place_read.Statement.{statement}

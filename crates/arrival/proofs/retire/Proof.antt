@@ -1,3 +1,4 @@
+-- `arrival::retire` meets its contract: each return knows the values of the definition's tests. Assumes nothing.
 use Rattle.arrival.proofs.Ways.{retire-plain, retire-other, retire-write}
 use borrow.Author.Needs.{needs}
 use Rattle.arrival.proofs.retire.Statement.{statement}

@@ -1,3 +1,4 @@
+-- `filling::fill_row` meets its contract: each way knows whether row i lacks the word. Assumes nothing.
 use Prim.Native.Nat.{ℕ}
 use mathlib.Core.Path.{_≡_}
 use mathlib.Core.Bool.{Bool, true, false}

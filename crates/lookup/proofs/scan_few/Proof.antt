@@ -1,3 +1,4 @@
+-- `lookup::scan_few` meets its contract. The loop's invariant: what is to find is what the rows below i have. Assumes nothing.
 use Prim.Native.Nat.{_-_, _≤_}
 use native.Mathlib.Omega.{arith}
 use mathlib.Core.Path.{_≡_}

@@ -1,3 +1,4 @@
+-- `lookup::wanted` meets its contract: each way knows the address and the kind. Assumes nothing.
 use Prim.Native.Nat.{ℕ}
 use mathlib.Core.Path.{_≡_}
 use mathlib.Core.Bool.{Bool, true, false, not, and-true, and-false}

@@ -1,3 +1,4 @@
+-- `table::each_ok` meets its contract. The loop's invariant: the rows below i are in range. Assumes nothing.
 use Prim.Native.Nat.{_-_, _≤_}
 use mathlib.Core.Path.{_≡_, refl}
 use mathlib.Core.Bool.{true}

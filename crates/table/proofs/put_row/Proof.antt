@@ -1,3 +1,4 @@
+-- `table::put_row` meets its contract: four stores, one in each column. Assumes nothing.
 use native.Mathlib.Omega.{arith}
 use lib.ListN.{length-set}
 use borrow.Author.Needs.{needs}

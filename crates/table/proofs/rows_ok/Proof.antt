@@ -1,3 +1,4 @@
+-- `table::rows_ok` meets its contract: a quick yes is one, and else each row decides. Assumes nothing.
 use Rattle.table.proofs.Columns.{range-ok}
 use borrow.Author.Needs.{needs}
 use Rattle.table.proofs.rows_ok.Statement.{statement}
