@@ -3,17 +3,16 @@ use Prim.Native.Nat.{ℕ, _-_, _*_, _<_}
 use mathlib.Core.Path.{_≡_, sym, ap, subst, _∙_}
 use mathlib.Core.Bool.{Bool, true, false}
 use mathlib.Core.List.{List}
-use native.Mathlib.Nat.{mod-lt}
 use native.Mathlib.Omega.{arith}
 use lib.Dec.{eqb}
 use lib.ListN.{length}
-use lib.Pow.{pow-pos}
 use borrow.Author.Tests.{eq-eqb, ne-eqb}
 use Rattle.answers.specs.Answers.{done, dropped, stopping}
 use Rattle.setup.specs.Choice.{pick}
 use Rattle.setup.specs.declared.Setup.{Setup}
 use Rattle.setup.specs.Setup.{banksOf}
 use Rattle.map.specs.Map.{bankOf}
+use Rattle.map.proofs.Split.{bank-below}
 use Rattle.map.specs.declared.Address.{Address}
 use Rattle.port.specs.declared.Operation.{Operation}
 use Rattle.port.specs.declared.Operation.the-variants.{Idle, Read, Write}
@@ -55,7 +54,7 @@ module _ (s : Setup) (rows entries heads : List ℕ) (f : Fit s rows entries hea
 
   -- the bank of any cell is one of the B
   pub fit-place : (e : Entry) → Buffer s (bankOf s (e .cell)) (buffersIn entries heads)
-  fit-place e = fit-buffer (bankOf s (e .cell)) (mod-lt (e .cell .0) (pow-pos (s .s)))
+  fit-place e = fit-buffer (bankOf s (e .cell)) (bank-below s (e .cell))
 
 -- what the calls on the table ask
 pub fit-row : (s : Setup) (rows entries heads : List ℕ) (i : ℕ) → Fit s rows entries heads → i < s .c → (length rows ≡ 4 * s .c) × (i < s .c)

@@ -1,6 +1,6 @@
 -- The bench sheet, computed. Assumes nothing.
 use mathlib.Core.Path.{refl}
-use Rattle.map.specs.Map.{cellOf}
+use Rattle.map.specs.Map.{bankOf, cellOf}
 use Rattle.model.specs.Cycle.{filledBelow, carried, servedBank, servedBelow, scan, placed, retired, arrived, afterService, passed}
 use Rattle.model.specs.Range.{rowsOk, entriesOk, buffersOk}
 use Rattle.model.specs.Calls.{startOf, freshIn, refusalOf, turnOf, cycleIn}
@@ -10,5 +10,5 @@ use Rattle.model.specs.Promises.{booked}
 use Rattle.bench.specs.Sheet.{Sheet}
 
 pub bench-sheet : Sheet
-unfolding cellOf filledBelow carried servedBank servedBelow scan placed retired arrived afterService passed rowsOk entriesOk buffersOk startOf freshIn refusalOf turnOf cycleIn replies afterAll entered booked
+unfolding cellOf bankOf filledBelow carried servedBank servedBelow scan placed retired arrived afterService passed rowsOk entriesOk buffersOk startOf freshIn refusalOf turnOf cycleIn replies afterAll entered booked
 bench-sheet = refl

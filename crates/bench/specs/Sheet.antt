@@ -6,7 +6,6 @@ use Rattle.setup.specs.declared.Setup.{Setup}
 use Rattle.setup.specs.declared.Checked.{Checked}
 use Rattle.setup.specs.declared.Checked.the-variants.{Good, Refused}
 use Rattle.setup.specs.Setup.{checkedOf, answerOf}
-use Rattle.map.specs.declared.Address.{Address}
 use Rattle.map.specs.declared.Cell.{Cell}
 use Rattle.map.specs.Map.{cellOf, bankOf, rowOf}
 use Rattle.port.specs.declared.Operation.{Operation}

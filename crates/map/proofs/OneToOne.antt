@@ -1,6 +1,6 @@
 -- The address map is one to one on the addresses below N, since u is odd. Assumes nothing.
 use Prim.Native.Nat.{ℕ, zero, suc, _+_, _-_, _*_, _^_, _%_, _/_, _≤_, _<_, _∣_}
-use mathlib.Core.Path.{_≡_, refl, sym, ap, _∙_}
+use mathlib.Core.Path.{_≡_, sym, ap, _∙_}
 use mathlib.Core.Logic.{⊎-elim}
 use native.Mathlib.Nat.{one-dvd, dvd-trans, dvd-mul-left, dvd-mul-right-of-dvd, dvd-add-iff-right, div-mul-cancel, dvd-of-mul-dvd-mul-right, mul-dvd-mul-right, div-add-mod', add-mul, mul-assoc, mul-sub, mul-comm, one-mul, pow-suc, mod-eq-zero-of-dvd, mod-eq-of-lt, eq-zero-or-pos}
 use native.Mathlib.Omega.{arith}

@@ -11,7 +11,7 @@ unfoldable pub cellOf : Setup → Address → Cell
 cellOf s x = record { 0 = (s .u * x .0 + s .v) % wordsOf s }
 
 -- the low s bits of the cell number name the bank
-abbrev pub bankOf : Setup → Cell → ℕ
+unfoldable pub bankOf : Setup → Cell → ℕ
 bankOf s x = x .0 % banksOf s
 
 -- the bank of an address

@@ -1,19 +1,19 @@
 -- The ledger that the inspector signs, by address, is the theory's ledger, by cell: call by call, answer, delivery, stamp and book agree. Assumes nothing.
 use Prim.Native.Nat.{ℕ, _+_, _-_, _%_, _^_, _≤_, _<_}
-use native.Mathlib.Nat.{add-zero, mod-lt}
+use native.Mathlib.Nat.{add-zero}
 use native.Mathlib.Omega.{arith}
 use mathlib.Core.Path.{_≡_, refl, sym, ap, _∙_}
 use mathlib.Core.Bool.{Bool, true, false, not, cond, false≢true, _&&_}
 use mathlib.Core.List.{List, _∷_, map}
 use lib.Dec.{eqb, ltb}
 use lib.ListN.{length, drop, length-map}
-use lib.Pow.{pow-pos}
 use borrow.Author.Tests.{eq-eqb, ne-eqb, lt-ltb, le-ltb}
 use Rattle.answers.specs.Answers.{done, badAddress, dropped, stopping, stopped}
 use Rattle.setup.specs.Choice.{pick}
 use Rattle.setup.specs.Setup.{Ranges, banksOf, merging}
 use Rattle.setup.specs.declared.Setup.{Setup}
 use Rattle.map.specs.Map.{cellOf}
+use Rattle.map.proofs.Split.{bank-below}
 use Rattle.map.specs.declared.Address.{Address}
 use Rattle.port.specs.declared.Operation.{Operation}
 use Rattle.port.specs.declared.Operation.the-variants.{Idle}
@@ -23,7 +23,7 @@ use Rattle.port.specs.declared.Reply.{Reply}
 use Rattle.model.specs.Calls.{addressOk}
 use Rattle.model.specs.Sram.{due}
 use Rattle.model.specs.Ledger.{Ledger, ledger, freshLedger, waits, serviced, Need, nowhere, at, retires, arrives, full, given, noted, replied, landed, passing, entered}
-use Rattle.model.proofs.Config.{configOf, shownOp, shownDelivery}
+use Rattle.model.proofs.Config.{bankNumbered, configOf, shownOp, shownDelivery}
 use Rattle.model.proofs.Cells.{Below, Within, ok-below, within-drop, map-drop, pick-cond, due-owed}
 use Rattle.model.proofs.Needs.{Asks, retires-leaving, arrives-asking}
 use Rattle.theory.proofs.Test.{same, lt, Says, is, isnt, same?, lt?, lt-true, same-eqb}
@@ -119,7 +119,7 @@ module _ (s : Setup) (l : Ledger) (y : theory.Ledger ℕ) (i : Agrees s l y) whe
         placed = λ b′ h.
             rw (i .placed b′ h, a)
             (ap (λ (n : ℕ). y .placed b′ + n)
-            (pick-cond (eqb (c % banksOf s) b′) (same (c % banksOf s) b′) 1 0 (sym (same-eqb (c % banksOf s) b′))));
+            (pick-cond (eqb (bankNumbered s c) b′) (same (bankNumbered s c) b′) 1 0 (sym (same-eqb (bankNumbered s c) b′))));
         served = i .served;
       }
 
@@ -132,14 +132,14 @@ module _ (s : Setup) (l : Ledger) (y : theory.Ledger ℕ) (i : Agrees s l y) whe
   full-free nowhere (for c) a k = absurd a
   full-free (at b) no a k = absurd a
   full-free (at b) (for c) a k =
-      rw (a, agrees-waits s l y i (c % banksOf s) h) (go (lt (waiting y (c % banksOf s)) (s .k)) (lt? _ _))
+      rw (a, agrees-waits s l y i (bankNumbered s c) h) (go (lt (waiting y (bankNumbered s c)) (s .k)) (lt? _ _))
     where
-      h : c % banksOf s < banksOf s
-      h = mod-lt c (pow-pos (s .s))
+      h : bankNumbered s c < banksOf s
+      h = bank-below s (record { 0 = c })
 
-      go : (t : Bool) → Says (waiting y (c % banksOf s) < s .k) t → eqb (waiting y (c % banksOf s)) (s .k) ≡ not t
-      go t (is p) = ne-eqb (waiting y (c % banksOf s)) (s .k) (λ e. omega arith)
-      go t (isnt f) = let z = k (c % banksOf s) h in eq-eqb (waiting y (c % banksOf s)) (s .k) (omega arith)
+      go : (t : Bool) → Says (waiting y (bankNumbered s c) < s .k) t → eqb (waiting y (bankNumbered s c)) (s .k) ≡ not t
+      go t (is p) = ne-eqb (waiting y (bankNumbered s c)) (s .k) (λ e. omega arith)
+      go t (isnt f) = let z = k (bankNumbered s c) h in eq-eqb (waiting y (bankNumbered s c)) (s .k) (omega arith)
 
 module _ (s : Setup) (y : theory.Ledger ℕ) (k : Holds s y) where
   pub holds-served : Holds s (servedL (shared s) y)
@@ -148,9 +148,9 @@ module _ (s : Setup) (y : theory.Ledger ℕ) (k : Holds s y) where
   pub holds-given : (n : theory.Need) → free (shared s) (s .k) n y ≡ true → Holds s (theory.given (shared s) n y)
   holds-given no e b h = let z = k b h in omega arith
   holds-given (for c) e b h =
-      go (lt (waiting y (c % banksOf s)) (s .k)) (lt? _ _) (same (c % banksOf s) b) (same? _ _) e
+      go (lt (waiting y (bankNumbered s c)) (s .k)) (lt? _ _) (same (bankNumbered s c) b) (same? _ _) e
     where
-      go : (t : Bool) → Says (waiting y (c % banksOf s) < s .k) t → (u : Bool) → Says (c % banksOf s ≡ b) u → t ≡ true
+      go : (t : Bool) → Says (waiting y (bankNumbered s c) < s .k) t → (u : Bool) → Says (bankNumbered s c ≡ b) u → t ≡ true
           → y .placed b + cond u 1 0 - y .served b ≤ s .k
       go t (is p) u (is q) e′ = let p′ : waiting y b < s .k = rw q at p in omega arith
       go t (is p) u (isnt q) e′ = let z = k b h in omega arith

@@ -1,17 +1,17 @@
 -- The buffers stay good: what waits once an entry is taken or placed. Assumes nothing.
 use Prim.Native.Nat.{ℕ, _+_, _-_, _*_, _≤_, _<_}
-use native.Mathlib.Nat.{mod-lt, eq-zero-or-pos}
+use native.Mathlib.Nat.{eq-zero-or-pos}
 use native.Mathlib.Omega.{arith}
 use mathlib.Core.Path.{_≡_, refl, sym, ap, subst, _∙_}
 use mathlib.Core.Logic.{⊎-elim}
 use mathlib.Core.Bool.{Bool, true, false}
 use lib.Dec.{eqb}
 use lib.ListN.{length}
-use lib.Pow.{pow-pos}
 use borrow.Author.Tests.{eq-eqb, ne-eqb, eqb-false}
 use Rattle.setup.specs.Setup.{wordsOf, banksOf}
 use Rattle.setup.specs.declared.Setup.{Setup}
 use Rattle.map.specs.Map.{bankOf}
+use Rattle.map.proofs.Split.{bank-below}
 use Rattle.model.specs.declared.Entry.{Entry}
 use Rattle.model.specs.Lent.{Buffers, buffersIn, entryAt, oldestOf, countOf, onward}
 use Rattle.model.specs.Range.{entryOk, waitingEntry, headOk}
@@ -208,9 +208,6 @@ module _ (s : Setup) (e : Entry) (q : Buffers) where
   unfolding placed
   placed-room h = rw (ne-eqb (countOf (q .heads) (bankOf s (e .cell))) (s .k) h)
 
-  pub bank-below : bankOf s (e .cell) < banksOf s
-  bank-below = mod-lt (e .cell .0) (pow-pos (s .s))
-
   pub placed-good : GoodBuffers s q → entryOk (wordsOf s) (s .c) e ≡ true → GoodBuffers s (placed s e q .1)
   unfolding placed
   placed-good g ok =
@@ -218,4 +215,4 @@ module _ (s : Setup) (e : Entry) (q : Buffers) where
       pick-either (λ (r : Bool × Buffers). GoodBuffers s (r .1)) (eqb (countOf (q .heads) b) (s .k))
       (λ t. g)
       (λ t. let n : countOf (q .heads) b ≡ s .k → ⊥ = eqb-false (countOf (q .heads) b) (s .k) t in
-      placed-at-good s q b e g bank-below (omega (arith, count-most s q g b bank-below)) ok)
+      placed-at-good s q b e g (bank-below s (e .cell)) (omega (arith, count-most s q g b (bank-below s (e .cell)))) ok)

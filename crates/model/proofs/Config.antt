@@ -1,11 +1,11 @@
 -- A checked setup and the port as the theory has them: its addresses are cells and its words numbers. Assumes nothing.
-use Prim.Native.Nat.{ℕ, _-_, _*_, _%_, _≤_}
-use native.Mathlib.Nat.{mul-le-mul, mod-lt}
+use Prim.Native.Nat.{ℕ, _-_, _*_, _≤_}
+use native.Mathlib.Nat.{mul-le-mul}
 use native.Mathlib.Omega.{arith}
-use lib.Pow.{pow-pos}
 use Rattle.setup.specs.Setup.{Ranges, banksOf}
 use Rattle.setup.specs.declared.Setup.{Setup}
-use Rattle.map.specs.Map.{cellOf}
+use Rattle.map.specs.Map.{cellOf, bankOf}
+use Rattle.map.proofs.Split.{bank-below}
 use Rattle.port.specs.declared.Operation.{Operation}
 use Rattle.port.specs.declared.Operation.the-variants.{Idle, Read, Write}
 use Rattle.port.specs.declared.Delivery.{Delivery}
@@ -14,9 +14,13 @@ use Rattle.theory.proofs.Operations.{Op, idle, read, write, nil, unready, word}
 use Rattle.theory.proofs.Operations as operations
 use Rattle.theory.proofs.Concrete.{Config, Legal}
 
+-- the bank of the cell with this number
+abbrev pub bankNumbered : Setup → ℕ → ℕ
+bankNumbered s c = bankOf s (record { 0 = c })
+
 -- a table of C rows is one of suc rest
 abbrev pub configOf : Setup → Config
-configOf s = record { banks = banksOf s; m = s .m; delay = s .delta; rest = s .c - 1; bank = λ c. c % banksOf s }
+configOf s = record { banks = banksOf s; m = s .m; delay = s .delta; rest = s .c - 1; bank = bankNumbered s }
 
 pub legal : (s : Setup) → Ranges s → Legal (configOf s) (s .k)
 legal s r =
@@ -26,7 +30,7 @@ legal s r =
       fits = r .delta-least;
       delays = omega (arith, r .delta-least);
       long = omega (arith, r .c-least);
-      within = λ a. mod-lt a (pow-pos (s .s));
+      within = λ c. bank-below s (record { 0 = c });
     }
 
 abbrev pub shownOp : Setup → Operation → Op ℕ

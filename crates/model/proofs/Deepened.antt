@@ -1,6 +1,5 @@
 -- Two setups that differ in depth alone: one call on the same ledger. Assumes nothing.
 use Prim.Native.Nat.{ℕ, _+_, _-_, _%_, _^_, _≤_, _<_}
-use native.Mathlib.Nat.{mod-lt}
 use native.Mathlib.Omega.{arith}
 use mathlib.Core.Path.{_≡_, refl, sym, ap, _∙_}
 use mathlib.Core.Logic.{_≢_}
@@ -8,13 +7,13 @@ use mathlib.Core.Bool.{Bool, true, false, _&&_}
 use mathlib.Core.List.{List, [], _∷_}
 use lib.Dec.{eqb}
 use lib.ListN.{length, take, drop}
-use lib.Pow.{pow-pos}
 use borrow.Author.Tests.{eqb-true, eqb-false, ne-eqb}
 use Rattle.answers.specs.Answers.{dropped, stopping}
 use Rattle.setup.specs.Choice.{pick}
 use Rattle.setup.specs.Setup.{banksOf, merging}
 use Rattle.setup.specs.declared.Setup.{Setup}
-use Rattle.map.specs.Map.{cellOf, bankAt}
+use Rattle.map.specs.Map.{cellOf, bankOf, bankAt}
+use Rattle.map.proofs.Split.{bank-below}
 use Rattle.map.specs.declared.Address.{Address}
 use Rattle.port.specs.declared.Operation.{Operation}
 use Rattle.port.specs.declared.Operation.the-variants.{Idle, Read, Write}
@@ -63,7 +62,7 @@ Bounded s l = (b : ℕ) → b < banksOf s → waits l b ≤ s .k
 module _ (s : Setup) where
   picked-housed : (t : Bool) (x : Address) → Housed s (pick t nowhere (at (bankAt s x)))
   picked-housed true x = tt
-  picked-housed false x = mod-lt (cellOf s x .0) (pow-pos (s .s))
+  picked-housed false x = bank-below s (cellOf s x)
 
   retiring-housed : (since older : List Operation) → Housed s (retiring s since older)
   retiring-housed since [] = tt
@@ -120,16 +119,17 @@ alike-picked : {A : Type 0} (t u : Bool) (x y z : A) → t ≢ true → (t ≡ f
 alike-picked true u x y z f g h = absurd (f refl)
 alike-picked false u x y z f g h = rw (g refl) (h refl)
 
+-- the depth is no part of the address map, whatever its rule
 module _ (s : Setup) (d : ℕ) where
   same-retiring : (since older : List Operation) → retiring (deepened s d) since older ≡ retiring s since older
-  unfolding cellOf
+  unfolding cellOf bankOf
   same-retiring since [] = refl
   same-retiring since (Idle ∷ before) = refl
   same-retiring since (Read x ∷ before) = refl
   same-retiring since (Write x w ∷ before) = refl
 
   same-arrives : (op : Operation) (l : Ledger) → arrives (deepened s d) op l ≡ arrives s op l
-  unfolding cellOf
+  unfolding cellOf bankOf
   same-arrives Idle l = refl
   same-arrives (Read x) l = refl
   same-arrives (Write x w) l = refl

@@ -9,14 +9,13 @@
 use Prim.Native.Nat.{ℕ, suc, _+_, _-_, _<_}
 use native.Mathlib.Omega.{arith}
 use mathlib.Core.Path.{_≡_, refl, sym, ap, subst, _∙_}
-use mathlib.Core.Logic.{_≢_}
 use mathlib.Core.Bool.{Bool, true, false}
 use mathlib.Core.List.{List, [], _∷_, _++_}
 use lib.ListN.{length, length-append}
-use Rattle.answers.specs.Answers.{done, dropped, stopping}
+use Rattle.answers.specs.Answers.{done}
 use Rattle.setup.specs.Setup.{Ranges, wordsOf, merging}
 use Rattle.setup.specs.declared.Setup.{Setup}
-use Rattle.map.specs.Map.{cellOf}
+use Rattle.map.specs.Map.{cellOf, bankOf}
 use Rattle.map.specs.declared.Address.{Address}
 use Rattle.port.specs.declared.Operation.{Operation}
 use Rattle.port.specs.declared.Operation.the-variants.{Idle, Read, Write}
@@ -127,12 +126,14 @@ module _ (s : Setup) (d : ℕ) where
 
   module _ (r₁ : Ranges s) (r₂ : Ranges (deepened s d)) (mem : ℕ → ℕ) (ops : List Operation) where
     takes : (op : Operation) → replyFrom s mem ops op .answer ≡ done → replyFrom (deepened s d) mem ops op .answer ≡ done
+    unfolding bankOf
     takes op q =
         let z = taken-from s r₁ mem ops op q in
         answer-from (deepened s d) r₂ mem ops op (same-ok s d op ∙ z .0)
         ∙ rw (same-op op, same-ops ops) (depths.deeper-takes (merging s) (setup (configOf s)) (s .k) d (shownOps s ops) (shownOp s op) (z .1))
 
     goes-on : ledgerFrom s mem ops .halted ≡ false → ledgerFrom (deepened s d) mem ops .halted ≡ false
+    unfolding bankOf
     goes-on h =
         line-going (deepened s d) r₂ mem ops
         (rw (same-ops ops) (depths.deeper-goes (merging s) (setup (configOf s)) (s .k) d (shownOps s ops) (going-line s r₁ mem ops h)))
@@ -210,6 +211,7 @@ module _ (s : Setup) (d : ℕ) (r₁ : Ranges s) (r₂ : Ranges (deepened s d)) 
       (none-dropped s r₁ mem a below ops kept) (shownOps s more) delayed (rw split at (going-line s r₁ mem all going)))
 
   words : (op : Operation) → addressOk s op ≡ true → (replyFrom s mem all op .delivery ≡ Word held) × (replyFrom (deepened s d) mem all op .delivery ≡ Word held)
+  unfolding bankOf
   words op e = (
     word-leaves s r₁ mem all op held going e (owed .0),
     word-leaves (deepened s d) r₂ mem all op held (goes-on s d r₁ r₂ mem all going) (same-ok s d op ∙ e) (rw (same-ops s d all) (owed .1)),

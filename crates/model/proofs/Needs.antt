@@ -1,11 +1,11 @@
 -- What retires and what arrives needs a place at the same bank by address as by cell, and lacks it alike. Assumes nothing.
-use Prim.Native.Nat.{ℕ, zero, suc, _-_, _%_, _<_}
+use Prim.Native.Nat.{ℕ, zero, suc, _-_, _<_}
 use mathlib.Core.Path.{_≡_, refl}
 use mathlib.Core.Bool.{Bool, true, false, cond, _&&_}
 use mathlib.Core.List.{List, [], _∷_, map}
 use lib.ListN.{getD, take, drop}
 use Rattle.setup.specs.Choice.{pick}
-use Rattle.setup.specs.Setup.{Ranges, banksOf, wordsOf, merging}
+use Rattle.setup.specs.Setup.{Ranges, wordsOf, merging}
 use Rattle.setup.specs.declared.Setup.{Setup}
 use Rattle.map.specs.Map.{cellOf, bankAt}
 use Rattle.map.specs.declared.Address.{Address}
@@ -13,7 +13,7 @@ use Rattle.port.specs.declared.Operation.{Operation}
 use Rattle.port.specs.declared.Operation.the-variants.{Idle, Read, Write}
 use Rattle.model.specs.Sram.{wrote, touched, some}
 use Rattle.model.specs.Ledger.{Ledger, Need, nowhere, at, retiring, arrives}
-use Rattle.model.proofs.Config.{configOf, shownOp}
+use Rattle.model.proofs.Config.{bankNumbered, configOf, shownOp}
 use Rattle.model.proofs.Cells.{Below, Within, some-wrote, some-touched}
 use Rattle.theory.proofs.Operations.{Op, idle}
 use Rattle.theory.proofs.Concrete.{setup}
@@ -25,7 +25,7 @@ abbrev pub Asks : Setup → Need → theory.Need → Type 0
 Asks s nowhere no = Unit {0}
 Asks s nowhere (for c) = ⊥
 Asks s (at b) no = ⊥
-Asks s (at b) (for c) = b ≡ c % banksOf s
+Asks s (at b) (for c) = b ≡ bankNumbered s c
 
 module _ (s : Setup) where
   -- the same test decides both

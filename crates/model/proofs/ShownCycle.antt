@@ -12,6 +12,7 @@ use Rattle.setup.specs.Choice.{pick}
 use Rattle.setup.specs.Setup.{merging, wordsOf, banksOf}
 use Rattle.setup.specs.declared.Setup.{Setup}
 use Rattle.map.specs.Map.{cellOf, bankOf}
+use Rattle.map.proofs.Split.{bank-below}
 use Rattle.map.specs.declared.Address.{Address}
 use Rattle.port.specs.declared.Operation.{Operation}
 use Rattle.port.specs.declared.Operation.the-variants.{Idle, Read, Write}
@@ -28,7 +29,7 @@ use Rattle.model.proofs.Tests.{pick-good, same-or-not}
 use Rattle.model.proofs.Rings.{back-below}
 use Rattle.model.proofs.Range.{row-kind, row-address}
 use Rattle.model.proofs.Rows.{GoodRows, scan-below}
-use Rattle.model.proofs.Buffers.{count-most, placed-full, placed-room, bank-below}
+use Rattle.model.proofs.Buffers.{count-most, placed-full, placed-room}
 use Rattle.model.proofs.Good.{good-rows, good-buffers, withBuffers}
 use Rattle.model.proofs.Arrival.{withArrived}
 use Rattle.model.proofs.Config.{configOf, shownOp, shownDelivery}
@@ -63,7 +64,7 @@ module _ (s : Setup) (t : State) (x : Lent) (g : Good s x) (e : Entry) where
       → pushC (bankOf s (e .cell)) (shownEntry e) (shown s t x) ≡ shown s t (withBuffers (placedAt s (bankOf s (e .cell)) e (x .buffers)) x)
   push-shown n =
       let b : ℕ = bankOf s (e .cell) in
-      let l : b < banksOf s = bank-below s e (x .buffers) in
+      let l : b < banksOf s = bank-below s (e .cell) in
       same-machine
       (placed-shown s (x .buffers) (good-buffers s x g) b l (omega (arith, count-most s (x .buffers) (good-buffers s x g) b l)) e)
       (λ a. refl)
@@ -74,7 +75,7 @@ module _ (s : Setup) (t : State) (x : Lent) (g : Good s x) (e : Entry) where
   room-free : (countOf (x .buffers .heads) (bankOf s (e .cell)) ≡ s .k → ⊥) → roomC (s .k) (bankOf s (e .cell)) (shown s t x) ≡ true
   room-free n =
       let b : ℕ = bankOf s (e .cell) in
-      room-shown s (x .buffers) b (omega (arith, count-most s (x .buffers) (good-buffers s x g) b (bank-below s e (x .buffers))))
+      room-shown s (x .buffers) b (omega (arith, count-most s (x .buffers) (good-buffers s x g) b (bank-below s (e .cell))))
 
 ------------------------------------------------------------------------
 -- Retirement

@@ -1,5 +1,5 @@
 -- Demand 2's promises, each under its own name: from `Tracks`, over every list of offered operations. Assumes nothing.
-use Prim.Native.Nat.{ℕ, suc, _+_, _-_, _%_, _^_, _<_, _≤_}
+use Prim.Native.Nat.{ℕ, suc, _+_, _-_, _%_, _^_, _<_}
 use mathlib.Core.Path.{_≡_, refl, sym, ap, subst, _∙_}
 use mathlib.Core.Logic.{_⊎_, inl, inr, _↔_}
 use mathlib.Core.Bool.{Bool, true, false}
@@ -8,7 +8,7 @@ use native.Mathlib.Omega.{arith}
 use lib.Dec.{eqb}
 use lib.ListN.{length, getD, drop, length-append, length-map}
 use lib.Seq.{drop-at}
-use borrow.Author.Tests.{eqb-true, lt-ltb}
+use borrow.Author.Tests.{lt-ltb}
 use Rattle.answers.specs.Answers.{done, badAddress, dropped, stopping, stopped}
 use Rattle.setup.specs.Choice.{pick}
 use Rattle.setup.specs.declared.Setup.{Setup}
@@ -22,15 +22,13 @@ use Rattle.port.specs.declared.Delivery.{Delivery}
 use Rattle.port.specs.declared.Delivery.the-variants.{None, Unready, Word}
 use Rattle.port.specs.declared.Reply.{Reply}
 use Rattle.model.specs.declared.State.{State}
-use Rattle.model.specs.declared.Cycled.{Cycled}
-use Rattle.model.specs.declared.Waiting.{Waiting}
 use Rattle.model.specs.Lent.{Lent, countOf}
-use Rattle.model.specs.Range.{Ready, lengthsOk, numbersOk}
+use Rattle.model.specs.Range.{Ready}
 use Rattle.model.specs.Cycle.{passed}
-use Rattle.model.specs.Calls.{addressOk, refusalOf, refused, turnOf, cycleIn, cycleOf, told, questionOf, waitingIn, waitingOf}
+use Rattle.model.specs.Calls.{addressOk, refusalOf, refused, turnOf, cycleIn, told, questionOf, waitingIn, waitingOf}
 use Rattle.model.specs.Runs.{Machine, replyOf, replies, after, afterAll, fresh}
 use Rattle.model.specs.Sram.{sram, due}
-use Rattle.model.specs.Ledger.{Ledger, ledger, freshLedger, waits, serviced, retires, arrives, full, given, noted, replied, landed, entered}
+use Rattle.model.specs.Ledger.{Ledger, ledger, freshLedger, waits, serviced, retires, arrives, full, given, noted, replied, entered}
 use Rattle.model.specs.Ledger as L
 use Rattle.model.specs.Promises.{Starts, reached, startWord, replyAt, promised, booked, ledgerAt, passing, historyFrom, history, Passes, retiringAt, arrivingAt, Emulates, ReadLeaves, NothingElse, NeverUnready, StopsExactly, DropsExactly, NeverBadState, TellsWaiting, RefusesWhole, StampsCycles, TurnsApart}
 use Rattle.theory.proofs.Concrete.{Legal, CSt, CRun, on, off, setup, reachedC}

@@ -7,12 +7,10 @@ use mathlib.Core.List.{List, _∷_, _++_}
 use native.Mathlib.Omega.{arith}
 use lib.ListN.{length, getD}
 use Rattle.answers.specs.Answers.{done, badAddress, stopped}
-use Rattle.setup.specs.Setup.{Ranges, merging, withDefaults}
+use Rattle.setup.specs.Setup.{Ranges, withDefaults}
 use Rattle.setup.specs.declared.Setup.{Setup}
-use Rattle.map.specs.declared.Address.{Address}
 use Rattle.port.specs.declared.Operation.{Operation}
 use Rattle.port.specs.declared.Operation.the-variants.{Read}
-use Rattle.port.specs.declared.Delivery.{Delivery}
 use Rattle.port.specs.declared.Delivery.the-variants.{Word}
 use Rattle.port.specs.declared.Reply.{Reply}
 use Rattle.model.specs.Calls.{addressOk}

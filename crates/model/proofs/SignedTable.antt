@@ -7,14 +7,11 @@ use Rattle.answers.specs.Answers.{done, badSetup, badLength, badState, badAddre
 use Rattle.setup.specs.Choice.{pick}
 use Rattle.setup.specs.Setup.{withDefaults, inRange, banksOf}
 use Rattle.setup.specs.declared.Setup.{Setup}
-use Rattle.setup.specs.declared.Checked.{Checked}
 use Rattle.setup.specs.declared.Checked.the-variants.{Good as InRange, Refused}
 use Rattle.port.specs.declared.Operation.{Operation}
 use Rattle.port.specs.declared.Operation.the-variants.{Idle, Read, Write}
 use Rattle.model.specs.declared.State.{State}
 use Rattle.model.specs.declared.Cycled.{Cycled}
-use Rattle.model.specs.declared.Started.{Started}
-use Rattle.model.specs.declared.Waiting.{Waiting}
 use Rattle.model.specs.Lent.{Lent, countOf}
 use Rattle.model.specs.Range.{lengthsOk, numbersOk}
 use Rattle.model.specs.Cycle.{passed}

@@ -1,19 +1,17 @@
 -- What a fresh start that answers 0 shows: the setup is in range, every length exact, and the machine fresh. Assumes nothing.
-use Prim.Native.Nat.{ℕ}
-use mathlib.Core.Path.{_≡_, refl, sym, ap, _∙_}
+use mathlib.Core.Path.{_≡_, refl}
 use mathlib.Core.Bool.{Bool, true, false}
 use native.Mathlib.Omega.{arith}
-use Rattle.answers.specs.Answers.{done, badSetup, badLength}
+use Rattle.answers.specs.Answers.{done, badLength}
 use Rattle.setup.specs.Choice.{pick}
 use Rattle.setup.specs.declared.Setup.{Setup}
-use Rattle.setup.specs.declared.Checked.{Checked}
 use Rattle.setup.specs.declared.Checked.the-variants.{Good as InRange, Refused}
 use Rattle.setup.specs.Setup.{inRange, withDefaults, checkedOf}
 use Rattle.model.specs.declared.State.{State}
 use Rattle.model.specs.declared.Started.{Started}
 use Rattle.model.specs.Lent.{Lent}
 use Rattle.model.specs.Range.{lengthsOk}
-use Rattle.model.specs.Calls.{started, freshState, freshLent, startOf, freshIn, freshOf}
+use Rattle.model.specs.Calls.{started, freshState, freshLent, startOf, freshIn}
 use Rattle.model.specs.Runs.{Machine, fresh}
 use Rattle.model.specs.Promises.{Starts}
 

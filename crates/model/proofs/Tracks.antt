@@ -9,16 +9,12 @@ use native.Mathlib.Numerals.{add-one}
 use native.Mathlib.Omega.{arith}
 use lib.Dec.{eqb}
 use lib.ListN.{length, getD}
-use borrow.Author.Tests.{eq-eqb}
-use Rattle.answers.specs.Answers.{done, badAddress, dropped, stopping, stopped}
+use Rattle.answers.specs.Answers.{done, badAddress, stopped}
 use Rattle.setup.specs.Choice.{pick}
 use Rattle.setup.specs.declared.Setup.{Setup}
 use Rattle.setup.specs.declared.Checked.the-variants.{Good as InRange}
 use Rattle.setup.specs.Setup.{Ranges, banksOf, merging, withDefaults, checkedOf}
-use Rattle.map.specs.Map.{cellOf}
-use Rattle.map.specs.declared.Address.{Address}
 use Rattle.port.specs.declared.Operation.{Operation}
-use Rattle.port.specs.declared.Operation.the-variants.{Idle}
 use Rattle.port.specs.declared.Delivery.{Delivery}
 use Rattle.port.specs.declared.Delivery.the-variants.{None, Unready, Word}
 use Rattle.port.specs.declared.Reply.{Reply}
@@ -27,7 +23,7 @@ use Rattle.model.specs.declared.Cycled.{Cycled}
 use Rattle.model.specs.Lent.{Lent}
 use Rattle.model.specs.Range.{Ready, lengthsOk}
 use Rattle.model.specs.Cycle.{passed}
-use Rattle.model.specs.Calls.{freshState, freshLent, startOf, freshIn, freshOf, addressOk, refusalOf, refused, turnOf, cycleOf}
+use Rattle.model.specs.Calls.{addressOk, refusalOf, refused, turnOf}
 use Rattle.model.specs.Runs.{Machine, call, leftBy, replyOf, after, fresh}
 use Rattle.model.specs.Ledger.{Ledger, freshLedger, replied, entered}
 use Rattle.model.specs.Promises as P

@@ -1,7 +1,6 @@
 -- The exported calls: fresh start, cycle and question, with the order of their refusals.
 use Prim.Native.Nat.{ℕ}
 use mathlib.Core.Bool.{Bool, true, false}
-use mathlib.Core.List.{List}
 use lib.Dec.{ltb, eqb}
 use lib.ListN.{replicate}
 use Rattle.answers.specs.Answers.{done, badSetup, badLength, badState, badAddress, stopped}

@@ -1,5 +1,5 @@
 -- Demand 3: one sequence through two controllers that start alike and differ only in buffer depth, both fitting the delay.
-use Prim.Native.Nat.{ℕ, _+_, _≤_}
+use Prim.Native.Nat.{_+_, _≤_}
 use mathlib.Core.Path.{_≡_}
 use mathlib.Core.Bool.{true}
 use mathlib.Core.List.{List, [], _∷_, _++_}

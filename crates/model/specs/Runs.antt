@@ -5,7 +5,6 @@ use Rattle.port.specs.declared.Operation.{Operation}
 use Rattle.port.specs.declared.Reply.{Reply}
 use Rattle.model.specs.declared.State.{State}
 use Rattle.model.specs.declared.Cycled.{Cycled}
-use Rattle.model.specs.declared.Started.{Started}
 use Rattle.model.specs.Lent.{Lent}
 use Rattle.model.specs.Calls.{freshOf, cycleOf}
 

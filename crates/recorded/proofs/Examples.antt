@@ -1,14 +1,13 @@
 -- P9 from the bytes of its files to the text, computed; and the two refusals of a setup. Assumes nothing.
-use Prim.Native.Nat.{ℕ, _*_}
+use Prim.Native.Nat.{ℕ}
 use Prim.Native.Char.{code}
 use Prim.Native.String.{String, [] as nil, _∷_ as _▹_}
 use mathlib.Core.Path.{_≡_, refl}
 use mathlib.Core.List.{List, [], _∷_, _++_, map}
 use Rattle.setup.specs.declared.Setup.{Setup}
 use Rattle.map.specs.declared.Address.{Address}
-use Rattle.port.specs.declared.Operation.{Operation}
 use Rattle.port.specs.declared.Operation.the-variants.{Idle, Read, Write}
-use Rattle.map.specs.Map.{cellOf}
+use Rattle.map.specs.Map.{bankOf, cellOf}
 use Rattle.model.specs.Cycle.{filledBelow, carried, servedBank, servedBelow, scan, placed, retired, arrived, afterService, passed}
 use Rattle.model.specs.Range.{rowsOk, entriesOk, buffersOk}
 use Rattle.model.specs.Calls.{refusalOf, turnOf, cycleIn}
@@ -52,5 +51,5 @@ sheet =
     ∷ []
 
 examples : map (λ (e : Example). printed (e .file) (e .input)) sheet ≡ map (λ (e : Example). bytes (e .text)) sheet
-unfolding cellOf filledBelow carried servedBank servedBelow scan placed retired arrived afterService passed rowsOk entriesOk buffersOk refusalOf turnOf cycleIn numberAt bytesOf operationFrom operationOf operationBytes setupFields allowed setupOf setupBytes digitsIn decimal deliveryText field lineOf openingFor setupLine withRecord listedBelow printedIn bytesFor
+unfolding cellOf bankOf filledBelow carried servedBank servedBelow scan placed retired arrived afterService passed rowsOk entriesOk buffersOk refusalOf turnOf cycleIn numberAt bytesOf operationFrom operationOf operationBytes setupFields allowed setupOf setupBytes digitsIn decimal deliveryText field lineOf openingFor setupLine withRecord listedBelow printedIn bytesFor
 examples = refl

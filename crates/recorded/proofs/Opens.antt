@@ -1,5 +1,5 @@
 -- What the setup file opens: what each return knows, the line of a refused setup, and what an opened setup is known to be. Assumes nothing.
-use Prim.Native.Nat.{ℕ, zero, suc, _+_, _*_, _%_, _^_, _≤_, _<_}
+use Prim.Native.Nat.{ℕ, zero, suc, _+_, _*_, _^_, _≤_, _<_}
 use mathlib.Core.Path.{_≡_, refl, sym, ap, subst, _∙_}
 use mathlib.Core.Bool.{Bool, true, false, _&&_}
 use mathlib.Core.List.{List, [], _∷_}
@@ -23,10 +23,9 @@ use Rattle.model.specs.Calls.{started, freshState, freshIn, freshOf, startOf}
 use Rattle.records.specs.Records.{setupOf}
 use Rattle.records.proofs.Choice.{first}
 use Rattle.records.specs.declared.SetupRecord.{SetupRecord}
-use Rattle.listing.specs.Listing.{ten, nought, decimal}
+use Rattle.listing.specs.Listing.{ten, nought}
 use Rattle.listing.proofs.Digits.{decimal-one}
 use Rattle.recorded.specs.declared.Opening.{Opening}
-use Rattle.recorded.specs.declared.Run.{Run}
 use Rattle.recorded.specs.Recorded.{mostA, mostC, mostPlaces, roomFor, openingIn, openingFor, openingOf, setupLine, zerosFor, mostBanks, wholeRoom, Opened, begun}
 
 ------------------------------------------------------------------------

@@ -1,10 +1,10 @@
 -- The lines of recorded operations are the replies of their run. Assumes nothing.
-use Prim.Native.Nat.{ℕ, suc, _+_, _*_, _≤_}
+use Prim.Native.Nat.{ℕ, suc, _+_, _≤_}
 use mathlib.Core.Path.{_≡_, refl, sym, ap, _∙_}
 use mathlib.Core.List.{List, [], _∷_, _++_}
 use native.Mathlib.Nat.{add-zero}
 use native.Mathlib.Omega.{arith}
-use lib.ListN.{length, take, drop}
+use lib.ListN.{length}
 use lib.Seq.{take-all}
 use Rattle.setup.specs.declared.Setup.{Setup}
 use Rattle.port.specs.declared.Operation.{Operation}
@@ -15,9 +15,9 @@ use Rattle.records.specs.RoundTrip.{Fits}
 use Rattle.records.specs.declared.OperationRecord.{OperationRecord}
 use Rattle.records.proofs.RoundTrip.{operation-read-as-written}
 use Rattle.listing.specs.Listing.{lineOf}
-use Rattle.recorded.specs.Recorded.{Listed, withRecord, recordAt, recordsIn, listedBelow, listed}
+use Rattle.recorded.specs.Recorded.{Listed, withRecord, recordsIn, listedBelow, listed}
 use Rattle.recorded.specs.Parts.{apart, behind}
-use Rattle.recorded.specs.Replies.{bytesFor, linesFor, AllFit, runningAt, AsReplies}
+use Rattle.recorded.specs.Replies.{bytesFor, linesFor, runningAt, AsReplies}
 use Rattle.recorded.proofs.Parts.{in-parts}
 
 bytes-long : (op : Operation) → length (operationBytes op) ≡ operationSize

@@ -1,8 +1,8 @@
 -- `Address::cell` meets its contract: the product and the sum of 32-bit numbers fit 64 bits, and a mask of a ones is a remainder by 2^a.
 -- Assumes nothing.
 use Prim.Native.Nat.{ℕ, _+_, _-_, _*_, _^_, _%_, _≤_, _<_}
-use mathlib.Core.Path.{_≡_, sym, ap, subst, _∙_}
-use native.Mathlib.Nat.{mul-le-mul, mod-lt, lt-trans, lt-of-le-of-lt}
+use mathlib.Core.Path.{_≡_, sym, subst}
+use native.Mathlib.Nat.{mul-le-mul, mod-lt, lt-trans}
 use native.Mathlib.Omega.{arith}
 use borrow.Author.Needs.{needs}
 use lib.Bits.{bitAnd, and-mask}
