@@ -128,7 +128,7 @@ fn said(line: Option<&[u8]>) -> String {
 fn from_anywhere(word: &OsStr) -> OsString {
     let path = Path::new(word);
     let is_path = path.components().count() > 1 && path.exists();
-    let absolute = is_path.then(|| std::path::absolute(path).ok()).flatten();
+    let absolute = is_path.then(|| path.canonicalize().ok()).flatten();
     absolute.map_or(word.to_os_string(), PathBuf::into_os_string)
 }
 

@@ -45,7 +45,7 @@ pub fn drawing(setup: Option<&[u8]>, operations: &[u8]) -> Result<String, String
     let configuration = admitted(setup).map_err(|answer| format!("setup {answer}"))?;
     let calls = calls(&configuration, operations, MOST_CALLS);
     let sheet = Sheet::new(configuration, calls);
-    Ok(sheet.drawn(operations.len().div_ceil(OPERATION_LENGTH)))
+    Ok(sheet.drawn(operations.chunks(OPERATION_LENGTH).len()))
 }
 
 struct Sheet {
@@ -198,11 +198,7 @@ impl Sheet {
             width: self.column,
             height: self.height() - LEGEND - HEADING,
         };
-        let shade = if number.is_multiple_of(2) {
-            SHADE
-        } else {
-            PAPER
-        };
+        let shade = if number % 2 == 0 { SHADE } else { PAPER };
         self.picture.rectangle(column, shade, "none");
         self.say(number, HEADING + 14.0, &number.to_string(), INK);
         self.offered(number);

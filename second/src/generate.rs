@@ -22,7 +22,7 @@ const PERCENT_DAMAGED: usize = 20;
 
 pub fn run(seed: u64) -> Run {
     let mut random = Random::new(seed);
-    if seed.is_multiple_of(ENDING_EVERY) {
+    if seed % ENDING_EVERY == 0 {
         unread(
             setups::ending(seed / ENDING_EVERY, &mut random),
             &mut random,

@@ -50,8 +50,9 @@ fn write_lines(
 ) -> io::Result<()> {
     let mut port = Port::fresh_start(configuration);
     for (number, record) in operations.chunks(OPERATION_LENGTH).enumerate() {
-        let Some(operation) = read_operation(record) else {
-            return write_line(number, Answer::BadRecord, None, listing);
+        let operation = match read_operation(record) {
+            Some(operation) => operation,
+            None => return write_line(number, Answer::BadRecord, None, listing),
         };
         let reply = port.call(operation);
         write_line(number, reply.answer, reply.delivery, listing)?;

@@ -120,7 +120,9 @@ impl Port {
 
     fn is_beyond_memory(&self, operation: Operation) -> bool {
         let address = operation.address();
-        address.is_some_and(|Address(address)| address >= self.configuration.words())
+        address.map_or(false, |Address(address)| {
+            address >= self.configuration.words()
+        })
     }
 
     /// Each bank b with b mod m = t mod m serves one entry, if any waits.
@@ -198,7 +200,9 @@ impl Port {
     /// Whether one of the last C − 1 cycles read or wrote the address.
     fn is_live(&self, address: Address) -> bool {
         let newest = self.history.newest(address);
-        newest.is_some_and(|cycle| cycle + self.configuration.c > self.history.now())
+        newest.map_or(false, |cycle| {
+            cycle + self.configuration.c > self.history.now()
+        })
     }
 
     fn write_entry(&self, address: Address, word: Word) -> Entry {

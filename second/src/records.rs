@@ -13,22 +13,22 @@ const WRITE: u8 = 2;
 
 /// The setup of a record, or nothing where its length or a zero byte is wrong. The ranges are not looked at.
 pub fn read_setup(record: &[u8]) -> Option<Setup> {
-    let record: &[u8; SETUP_LENGTH] = record.try_into().ok()?;
-    let &[mode, a, s, m, k0, k1, d0, d1, c0, c1, 0, 0, u0, u1, u2, u3, v0, v1, v2, v3] = record
-    else {
-        return None;
-    };
-    Some(Setup {
-        mode,
-        a,
-        s,
-        m,
-        k: u16::from_le_bytes([k0, k1]),
-        delta: u16::from_le_bytes([d0, d1]),
-        c: u16::from_le_bytes([c0, c1]),
-        u: u32::from_le_bytes([u0, u1, u2, u3]),
-        v: u32::from_le_bytes([v0, v1, v2, v3]),
-    })
+    match *<&[u8; SETUP_LENGTH]>::try_from(record).ok()? {
+        [mode, a, s, m, k0, k1, d0, d1, c0, c1, 0, 0, u0, u1, u2, u3, v0, v1, v2, v3] => {
+            Some(Setup {
+                mode,
+                a,
+                s,
+                m,
+                k: u16::from_le_bytes([k0, k1]),
+                delta: u16::from_le_bytes([d0, d1]),
+                c: u16::from_le_bytes([c0, c1]),
+                u: u32::from_le_bytes([u0, u1, u2, u3]),
+                v: u32::from_le_bytes([v0, v1, v2, v3]),
+            })
+        }
+        _ => None,
+    }
 }
 
 /// The record of a setup as written; a default given as 0 stays 0, and a number out of range stays what it is.
@@ -47,12 +47,14 @@ pub fn write_setup(setup: &Setup) -> Vec<u8> {
 
 /// The operation of a record, or nothing where document 01 answers 9.
 pub fn read_operation(record: &[u8]) -> Option<Operation> {
-    let record: &[u8; OPERATION_LENGTH] = record.try_into().ok()?;
-    let &[kind, 0, 0, 0, a0, a1, a2, a3, w0, w1, w2, w3] = record else {
-        return None;
+    let (kind, address, word) = match *<&[u8; OPERATION_LENGTH]>::try_from(record).ok()? {
+        [kind, 0, 0, 0, a0, a1, a2, a3, w0, w1, w2, w3] => (
+            kind,
+            u32::from_le_bytes([a0, a1, a2, a3]),
+            u32::from_le_bytes([w0, w1, w2, w3]),
+        ),
+        _ => return None,
     };
-    let address = u32::from_le_bytes([a0, a1, a2, a3]);
-    let word = u32::from_le_bytes([w0, w1, w2, w3]);
     match (kind, address, word) {
         (IDLE, 0, 0) => Some(Operation::Idle),
         (READ, address, 0) => Some(Operation::Read(Address(address))),

@@ -40,10 +40,11 @@ pub fn pack_setup(text: &str) -> Result<Vec<u8>, String> {
 
 /// Which of the numbers a name and its number give.
 fn setup_number(pair: &[&str]) -> Option<(usize, u32)> {
-    let &[name, number] = pair else {
-        return None;
+    let (name, number) = match pair {
+        [name, number] => (name, number),
+        _ => return None,
     };
-    let at = NUMBERS.iter().position(|&(known, _)| known == name)?;
+    let at = NUMBERS.iter().position(|(known, _)| known == name)?;
     let number = number.parse().ok()?;
     (number <= NUMBERS[at].1).then_some((at, number))
 }

@@ -61,8 +61,9 @@ impl Finished {
     /// The bank at which the write that retires in a cycle needs a place.
     fn retiring(&self, cycle: usize) -> Option<usize> {
         let retired = cycle.checked_sub(self.configuration.c)?;
-        let Operation::Write(address, _) = self.past[retired] else {
-            return None;
+        let address = match self.past[retired] {
+            Operation::Write(address, _) => address,
+            _ => return None,
         };
         let since = &self.past[retired + 1..cycle];
         let replaced = since.iter().any(|&it| is_write_to(it, address));
@@ -134,9 +135,10 @@ fn demand_2_it_drops_and_stops_exactly_at_a_full_buffer() {
         let placed = run.placed();
         for (cycle, (operation, reply)) in run.cycles().enumerate() {
             let retiring = run.retiring(cycle);
-            let stops =
-                retiring.is_some_and(|bank| run.waiting(&placed, bank, cycle) == configuration.k);
-            let drops = run.arriving(cycle, operation).is_some_and(|bank| {
+            let stops = retiring.map_or(false, |bank| {
+                run.waiting(&placed, bank, cycle) == configuration.k
+            });
+            let drops = run.arriving(cycle, operation).map_or(false, |bank| {
                 let just_placed = usize::from(retiring == Some(bank));
                 run.waiting(&placed, bank, cycle) + just_placed == configuration.k
             });
@@ -157,7 +159,7 @@ fn a_refused_call_delivers_nothing_and_its_reason_stands() {
         let mut stopped = false;
         for (operation, reply) in offered.iter().zip(replies(configuration, &offered)) {
             let address = operation.address();
-            let beyond = address.is_some_and(|Address(it)| it >= configuration.words());
+            let beyond = address.map_or(false, |Address(it)| it >= configuration.words());
             let refused = matches!(reply.answer, Answer::BadAddress | Answer::Stopped);
             assert_eq!(reply.answer == Answer::Stopped, stopped, "seed {seed}");
             assert_eq!(
@@ -234,8 +236,9 @@ fn demand_3_plain_a_deeper_buffer_takes_as_much_and_gives_the_same_words() {
 fn demand_3_merging_both_depths_agree_until_the_shallower_drops_or_stops() {
     let mut parted = 0;
     for seed in 0..RUNS {
-        let Some((shallower, deeper)) = two_depths(seed, Mode::Merging) else {
-            continue;
+        let (shallower, deeper) = match two_depths(seed, Mode::Merging) {
+            Some(two) => two,
+            None => continue,
         };
         for (call, (less, more)) in shallower.replies.iter().zip(&deeper.replies).enumerate() {
             assert_eq!(less.delivery, more.delivery, "seed {seed}, call {call}");

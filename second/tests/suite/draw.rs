@@ -27,8 +27,9 @@ fn count(picture: &str, said: &str) -> usize {
 fn is_balanced(picture: &str) -> bool {
     let mut open = Vec::new();
     for tag in picture.split('<').skip(1) {
-        let Some((tag, _)) = tag.split_once('>') else {
-            return false;
+        let tag = match tag.split_once('>') {
+            Some((tag, _)) => tag,
+            None => return false,
         };
         let name = tag.split([' ', '/']).find(|name| !name.is_empty());
         if tag.starts_with('/') {

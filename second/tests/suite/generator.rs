@@ -59,7 +59,7 @@ fn corners(seed: u64) -> Vec<&'static str> {
     let merging = run
         .setup
         .as_ref()
-        .is_some_and(|setup| setup.first() == Some(&1));
+        .map_or(false, |setup| setup.first() == Some(&1));
     let reached = [
         ("setup 1", listing == "setup 1\n"),
         ("setup 8", listing == "setup 8\n"),
@@ -111,8 +111,9 @@ fn taken(run: &generate::Run, words: &[Vec<&str>]) -> Vec<Operation> {
 }
 
 fn merges_a_read(run: &generate::Run, words: &[Vec<&str>]) -> bool {
-    let Some(configuration) = configuration(run) else {
-        return false;
+    let configuration = match configuration(run) {
+        Some(configuration) => configuration,
+        None => return false,
     };
     let taken = taken(run, words);
     configuration.mode == Mode::Merging
@@ -124,7 +125,7 @@ fn merges_a_read(run: &generate::Run, words: &[Vec<&str>]) -> bool {
 }
 
 fn passes_3_c(run: &generate::Run, words: &[Vec<&str>]) -> bool {
-    configuration(run).is_some_and(|it| taken(run, words).len() > 3 * it.c)
+    configuration(run).map_or(false, |it| taken(run, words).len() > 3 * it.c)
 }
 
 fn configuration(run: &generate::Run) -> Option<second::setup::Configuration> {

@@ -51,7 +51,7 @@ impl Machine {
         if self.stopped {
             return reply(Answer::Stopped, None);
         }
-        if address.is_some_and(|Address(it)| it >= self.configuration.words()) {
+        if address.map_or(false, |Address(it)| it >= self.configuration.words()) {
             return reply(Answer::BadAddress, None);
         }
         self.service();
@@ -140,7 +140,7 @@ impl Machine {
                 Some(Row::Empty) | None => self.new_read(address, row),
             },
         };
-        let taken = entry.is_none_or(|entry| self.place(entry));
+        let taken = entry.map_or(true, |entry| self.place(entry));
         if taken {
             self.rows[row] = filled;
         }
