@@ -37,7 +37,7 @@ fn deliver(s: Setup, position: usize, rows: &[u32]) -> Delivery
     requires { ⌜ Ranges s × (length (now rows) ≡ 4 * s .c) × (position < s .c) ⌝ }
     ensures { λ d. ⌜ d ≡ delivered s position (now (rows .entry)) ⌝ }
 {
-    let at = places::back(s.c as usize, position, s.delta as usize);
+    let at = rings::back(s.c as usize, position, s.delta as usize);
     leave(table::row_at(rows, s.c as usize, at))
 }
 
@@ -264,8 +264,8 @@ fn next_state(s: Setup, t: State) -> State
 {
     State {
         stamp: std::num::wrapping_add_u32(t.stamp, 1),
-        turn: places::onward(s.m as usize, t.turn as usize, 1) as u32,
-        position: places::onward(s.c as usize, t.position as usize, 1) as u32,
+        turn: rings::onward(s.m as usize, t.turn as usize, 1) as u32,
+        position: rings::onward(s.c as usize, t.position as usize, 1) as u32,
         stopped: t.stopped,
     }
 }

@@ -9,8 +9,8 @@ ghost use Rattle.model.specs.Cycle.{oldestEntry, popped, placedAt, placed};
 ghost use Rattle.buffers.specs.Bank.{Head, Buffer};
 use map::Cell;
 use model::Entry;
-use places::onward;
-use places::put_four;
+use rings::onward;
+use rings::put_four;
 use setup::Setup;
 
 // One buffer: `part` has its k places, and the place after the last is the first.

@@ -5,12 +5,12 @@ ghost use lib.ListN.{length};
 ghost use Rattle.io.specs.Counts.{Counts};
 ghost use Rattle.model.specs.Lent.{lent};
 ghost use Rattle.listing.specs.Listing.{pairTable, lineMost};
-ghost use Rattle.recorded.specs.Recorded.{recordsIn, zerosFor, wholeRoom, Opened};
+ghost use Rattle.replay.specs.Replay.{recordsIn, zerosFor, wholeRoom, Opened};
 ghost use Rattle.cyclerun.specs.Parts.{partMost};
 use libc::STDIN_FILENO;
 use libc::STDOUT_FILENO;
-use recorded::Opening;
-use recorded::Run;
+use replay::Opening;
+use replay::Run;
 use setup::Setup;
 
 // The records that are read and printed at once.
@@ -39,7 +39,7 @@ fn run_part(
     ensures { λ r. ⌜ r .number ≤ run .number + recordsIn (length (now (input .entry))) ⌝ }
 {
     let n = io::read_full(STDIN_FILENO, input);
-    let r = recorded::part(
+    let r = replay::part(
         s,
         run,
         &input[..n],
@@ -74,7 +74,7 @@ fn run_all(
 )
     requires { ⌜ Opened s × (lent (now memory) (now rows) (now entries) (now heads) ≡ zerosFor s) × (now table ≡ pairTable) × (recordsIn (length (now input)) ≤ partMost) × (lineMost * partMost ≤ length (now out)) ⌝ }
 {
-    let mut r = recorded::begin(s, memory, rows, entries, heads);
+    let mut r = replay::begin(s, memory, rows, entries, heads);
     let mut parts = MOST_PARTS;
     while 0 < parts && r.on {
         r = run_part(s, r, memory, rows, entries, heads, table, input, out);
@@ -116,10 +116,10 @@ fn cut(
 fn start(s: Setup)
     requires { ⌜ Opened s ⌝ }
 {
-    let mut memory = [0u32; recorded::WORDS];
-    let mut rows = [0u32; recorded::ROW_NUMBERS];
-    let mut entries = [0u32; recorded::ENTRY_NUMBERS];
-    let mut heads = [0u32; recorded::HEAD_NUMBERS];
+    let mut memory = [0u32; replay::WORDS];
+    let mut rows = [0u32; replay::ROW_NUMBERS];
+    let mut entries = [0u32; replay::ENTRY_NUMBERS];
+    let mut heads = [0u32; replay::HEAD_NUMBERS];
     let mut input = [0u8; INPUT_BYTES];
     let mut out = [0u8; OUTPUT_BYTES];
     let table = listing::pairs();
@@ -152,11 +152,11 @@ fn main() {
     // One byte more than a setup has, so that a file that is too long is seen.
     let mut file = [0u8; records::SETUP_BYTES + 1];
     let n = read_setup(&mut file);
-    let opening = recorded::open(&file[..n]);
+    let opening = replay::open(&file[..n]);
     match opening {
         Opening::Open(s) => start(s),
         Opening::Refused(answer) => {
-            let line = recorded::setup_line(answer);
+            let line = replay::setup_line(answer);
             io::write_all(STDOUT_FILENO, &line);
         }
     }

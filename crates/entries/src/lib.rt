@@ -12,7 +12,7 @@ ghost use Rattle.entries.specs.Entries.{partOk, HeadsIn, Quiet, nextWait
 use buffers::count_at;
 use buffers::oldest_at;
 use model::Entry;
-use places::next;
+use rings::next;
 use setup::Setup;
 
 // A kind that is coded, a cell below n, and of a read entry a row below c. A write entry names row 0, so the last test nearly never comes to the kind.

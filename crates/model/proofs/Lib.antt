@@ -31,4 +31,4 @@ pub mod Deepened
 pub mod Depths
 pub mod SignedDepths
 pub mod Examples
-pub mod SignedTable
+pub mod SignedRefusals

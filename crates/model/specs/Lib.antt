@@ -8,4 +8,4 @@ pub mod Ledger
 pub mod Promises
 pub mod Depths
 pub mod Examples
-pub mod Table
+pub mod Refusals

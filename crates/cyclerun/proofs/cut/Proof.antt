@@ -2,7 +2,7 @@
 use native.Mathlib.Omega.{arith}
 use Rattle.setup.proofs.Ranges.{places-most}
 use Rattle.io.proofs.Counting.{front}
-use Rattle.recorded.proofs.Opens.{words-within, rows-within, entries-within, heads-within, room-cut}
+use Rattle.replay.proofs.Opens.{words-within, rows-within, entries-within, heads-within, room-cut}
 use borrow.Author.Needs.{needs}
 use Rattle.cyclerun.proofs.cut.Statement.{statement}
 use Rattle.cyclerun.proofs.cut.Tie as tie

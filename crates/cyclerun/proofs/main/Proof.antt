@@ -1,5 +1,5 @@
 -- `cyclerun::main` meets its contract: what the file opens is known. Assumes nothing.
-use Rattle.recorded.proofs.Opens.{opened, refused-digit}
+use Rattle.replay.proofs.Opens.{opened, refused-digit}
 use borrow.Author.Needs.{needs}
 use Rattle.cyclerun.proofs.main.Statement.{statement}
 use Rattle.cyclerun.proofs.main.Tie as tie

@@ -5,7 +5,7 @@ use native.Mathlib.Omega.{arith}
 use borrow.Author.Needs.{needs}
 use lib.ListN.{length}
 use Rattle.model.specs.Lent.{Lent}
-use Rattle.recorded.specs.declared.Run.{Run}
+use Rattle.replay.specs.declared.Run.{Run}
 use Rattle.cyclerun.specs.Parts.{partMost, partsMost}
 use Rattle.cyclerun.proofs.run_all.Statement.{statement}
 use Rattle.cyclerun.proofs.run_all.Tie as tie

@@ -1,7 +1,7 @@
 -- `cyclerun::run_part` meets its contract: the text ends within the room, and each record is counted once. Assumes nothing.
 use native.Mathlib.Omega.{arith}
 use Rattle.io.proofs.Counting.{front}
-use Rattle.recorded.proofs.Lines.{number-most}
+use Rattle.replay.proofs.Lines.{number-most}
 use borrow.Author.Needs.{needs}
 use Rattle.cyclerun.proofs.run_part.Statement.{statement}
 use Rattle.cyclerun.proofs.run_part.Tie as tie

@@ -1,3 +1,0 @@
-pub mod Recorded
-pub mod Parts
-pub mod Replies
