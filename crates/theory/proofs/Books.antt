@@ -6,7 +6,8 @@ use Prim.Native.Nat.{ℕ, zero, suc, _+_, _-_, _*_, _≤_, _<_}
 use native.Mathlib.Omega.{arith}
 use lib.ListN.{length, getD, drop, length-append}
 use Rattle.theory.proofs.Test.{same, lt, Says, is, isnt, lt?, same?}
-use Rattle.theory.proofs.Operations.{Op, idle, read, write, Setup, done, dropped, stopping, nil, owed, ideal}
+use Rattle.answers.specs.Answers.{done, dropped, stopping}
+use Rattle.theory.proofs.Operations.{Op, idle, read, write, Setup, nil, owed, ideal}
 use Rattle.theory.proofs.Machine.{Entry, rd, wr, Row, none, put, got, wait, St, Found, nothing, there, Plan, only, needs, Kept, kept, full, Run, on, off, shape, writes, names, newer, look, room, shed, retireRow, retireAt, retire, echo, merge, plan, land, seat, served, arrive, finish, cycle, answer?, answer, gives, reply, Going, run, pop, ext, push, note}
 use Rattle.theory.proofs.Ledger.{Ledger, Line, goes, stops, Need, no, for, waiting, touches, rewrites, among, servedL, sram, owedL, givesL, leaves, leaving, asking, free, given, noted, arrives, cycleL, answerL, replyL, ledger}
 use Rattle.theory.proofs.Keeps.{shape-fill, Taken, Clock, GoodRun}

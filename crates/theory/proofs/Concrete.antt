@@ -6,7 +6,8 @@ use mathlib.Core.List.{List, [], _∷_, _++_}
 use Prim.Native.Nat.{ℕ, zero, suc, _+_, _-_, _*_, _%_, _≤_, _<_}
 use lib.ListN.{getD, set, length, replicate}
 use Rattle.theory.proofs.Test.{same, lt}
-use Rattle.theory.proofs.Operations.{Op, idle, read, write, Delivery, nil, done, dropped, stopping, stopped, Reply, Setup, upd}
+use Rattle.answers.specs.Answers.{done, dropped, stopping, stopped}
+use Rattle.theory.proofs.Operations.{Op, idle, read, write, Delivery, nil, Reply, Setup, upd}
 use Rattle.theory.proofs.Machine.{Entry, rd, wr, Row, none, put, got, wait, Plan, only, needs, out, asOp, pop, ext, merge}
 use Rattle.theory.proofs.Calls.{after}
 use Rattle.theory.proofs.Table.{lookBack, newerBack, fillTab}

@@ -7,7 +7,8 @@ use Prim.Native.Nat.{ℕ, zero, suc, _+_, _-_, _≤_, _<_}
 use native.Mathlib.Omega.{arith}
 use lib.ListN.{length, getD}
 use Rattle.theory.proofs.Test.{same, lt, Says, is, isnt, lt?, same?, lt-true}
-use Rattle.theory.proofs.Operations.{Op, idle, read, write, Setup, done}
+use Rattle.answers.specs.Answers.{done}
+use Rattle.theory.proofs.Operations.{Op, idle, read, write, Setup}
 use Rattle.theory.proofs.Calls.{after-last, by-last}
 use Rattle.theory.proofs.Ledger.{Ledger, Line, goes, stops, Need, no, for, oneFor, waiting, servedL, retiredL, touches, rewrites, among, leaves, leaving, asking, free, given, noted, cycleL, answerL, freshL, reachedL}
 use Rattle.theory.proofs.Past.{Way, takes, drops, halts, way}

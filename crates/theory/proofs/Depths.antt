@@ -14,7 +14,8 @@ use Prim.Native.Nat.{ℕ, suc, _+_, _<_}
 use native.Mathlib.Omega.{arith}
 use lib.ListN.{length}
 use Rattle.theory.proofs.Test.{same, lt, Says, is, isnt, lt?, same?, lt-true}
-use Rattle.theory.proofs.Operations.{Op, idle, read, write, Setup, upd, word, done, dropped}
+use Rattle.answers.specs.Answers.{done, dropped}
+use Rattle.theory.proofs.Operations.{Op, idle, read, write, Setup, upd, word}
 use Rattle.theory.proofs.Calls.{after-last, by-last}
 use Rattle.theory.proofs.Ledger.{Ledger, Line, goes, stops, Need, no, for, waiting, pastOf, Goes, servedL, retiredL, sram, givesL, leaving, asking, free, cycleL, answerL, replyL, freshL, reachedL}
 use Rattle.theory.proofs.Past.{Way, takes, drops, halts, way, goes-all-along, taken-goes, read-leaves}

@@ -1,4 +1,4 @@
--- No more than K wait at a bank; so a place is lacking exactly where K wait, and that is exactly when a call answers 5 or 6. Assumes nothing.
+-- No more than K wait at a bank; so a place is lacking exactly where K wait, and that is exactly when a call answers dropped or stopping. Assumes nothing.
 use mathlib.Core.Path.{_≡_, refl, sym, subst, _∙_}
 use mathlib.Core.Logic.{_↔_}
 use mathlib.Core.Bool.{Bool, true, false, cond, true≢false}
@@ -6,7 +6,8 @@ use mathlib.Core.List.{List}
 use Prim.Native.Nat.{ℕ, _+_, _-_, _≤_, _<_}
 use native.Mathlib.Omega.{arith}
 use Rattle.theory.proofs.Test.{same, lt, Says, is, isnt, lt?, same?}
-use Rattle.theory.proofs.Operations.{Op, Setup, dropped, stopping}
+use Rattle.answers.specs.Answers.{dropped, stopping}
+use Rattle.theory.proofs.Operations.{Op, Setup}
 use Rattle.theory.proofs.Calls.{by-last, after-last}
 use Rattle.theory.proofs.Ledger.{Ledger, Line, goes, stops, Need, no, for, waiting, bookOf, servedL, retiredL, leaving, asking, free, given, cycleL, answerL, freshL, reachedL}
 use Rattle.theory.proofs.Past.{Way, takes, drops, halts, way}
@@ -55,7 +56,7 @@ module _ {W : Type 0} (g : Setup) (K : ℕ) where
         (λ ops o h. rw (after-last (cycleL mode g K) ops o freshL) (cycle-holds o (reachedL mode g K ops) h))
 
     ------------------------------------------------------------------
-    -- The answers 5 and 6
+    -- The answers dropped and stopping
 
     module _ (o : Op W) (l : Ledger W) (h : Holds l) where
       no-place : (free g K (leaving mode g (l .past)) (servedL g l) ≡ false) ↔ Lacks (leaving mode g (l .past)) (servedL g l)
@@ -78,10 +79,10 @@ module _ {W : Type 0} (g : Setup) (K : ℕ) where
       reached-holds : Holds l
       reached-holds = subst (λ (x : Line W). Holds (bookOf x)) e (at-most-K ops)
 
-      -- a call answers 6 exactly when a retiring write needs a place where K wait
+      -- a call answers stopping exactly when a retiring write needs a place where K wait
       pub stops-exactly : (answerL mode g K o (goes l) ≡ stopping) ↔ Lacks (leaving mode g (l .past)) (servedL g l)
       stops-exactly = stop-way o l reached-holds (answerL mode g K o (goes l)) (cycleL mode g K o (goes l)) (way mode g K o l)
 
-      -- and 5 exactly when it does not stop and its operation needs a place where K wait, after service and retirement
+      -- and dropped exactly when it does not stop and its operation needs a place where K wait, after service and retirement
       pub drops-exactly : (answerL mode g K o (goes l) ≡ dropped) ↔ ((¬ Lacks (leaving mode g (l .past)) (servedL g l)) × Lacks (asking mode g (l .past) o) (retiredL mode g l))
       drops-exactly = drop-way o l reached-holds (answerL mode g K o (goes l)) (cycleL mode g K o (goes l)) (way mode g K o l)

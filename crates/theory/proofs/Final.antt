@@ -5,7 +5,8 @@ use Prim.Native.Nat.{ℕ, zero, suc}
 use native.Mathlib.Nat.{zero-mod}
 use native.Mathlib.Omega.{arith}
 use lib.ListN.{length, length-replicate, getD-replicate}
-use Rattle.theory.proofs.Operations.{Op, Setup, Fine, done, dropped}
+use Rattle.answers.specs.Answers.{done, dropped}
+use Rattle.theory.proofs.Operations.{Op, Setup, Fine}
 use Rattle.theory.proofs.Machine.{St, Kept, Run, none, Plan, fresh, served, retire, plan, land, finish, cycle, answer?, answer, gives, reply, run}
 use Rattle.theory.proofs.Machine as M
 use Rattle.theory.proofs.Concrete.{Config, Legal, setup, CSt, CKept, CRun, freshC, serveTo, retireC, landC, planC, finishC, cycleC, answerC?, answerC, givesC, replyC, runC}

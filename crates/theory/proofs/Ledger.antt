@@ -4,7 +4,8 @@ use mathlib.Core.List.{List, [], _∷_}
 use Prim.Native.Nat.{ℕ, zero, suc, _+_, _-_}
 use lib.ListN.{length, getD, drop}
 use Rattle.theory.proofs.Test.{same, lt}
-use Rattle.theory.proofs.Operations.{Op, idle, read, write, Setup, upd, Delivery, nil, owed, done, dropped, stopping, stopped, Reply}
+use Rattle.answers.specs.Answers.{done, dropped, stopping, stopped}
+use Rattle.theory.proofs.Operations.{Op, idle, read, write, Setup, upd, Delivery, nil, owed, Reply}
 use Rattle.theory.proofs.Calls.{after}
 
 -- past: newest first, a dropped operation standing as idle. So the number of the next cycle is its length

@@ -6,7 +6,8 @@ use mathlib.Core.List.{List, [], _∷_, _++_}
 use Prim.Native.Nat.{ℕ, zero, suc, _-_}
 use lib.ListN.{length}
 use Rattle.theory.proofs.Test.{same, lt}
-use Rattle.theory.proofs.Operations.{Op, idle, read, write, Setup, Delivery, nil, unready, word, done, dropped, stopping, stopped, Reply, upd}
+use Rattle.answers.specs.Answers.{done, dropped, stopping, stopped}
+use Rattle.theory.proofs.Operations.{Op, idle, read, write, Setup, Delivery, nil, unready, word, Reply, upd}
 
 -- a request: a read of an address for the row of a cycle, or a write
 pub data Entry (W : Type 0) : Type 0 where

@@ -20,19 +20,6 @@ pub data Delivery (W : Type 0) : Type 0 where
   unready : Delivery W
   word : W → Delivery W
 
--- the answers of a cycle: taken; dropped; a retiring write stops the machine; it was stopped before
-abbrev pub done : ℕ
-done = 0
-
-abbrev pub dropped : ℕ
-dropped = 5
-
-abbrev pub stopping : ℕ
-stopping = 6
-
-abbrev pub stopped : ℕ
-stopped = 7
-
 -- what a call returns
 pub record Reply (W : Type 0) : Type 0 where
   pub answer : ℕ

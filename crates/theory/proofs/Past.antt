@@ -9,7 +9,8 @@ use native.Mathlib.Omega.{arith}
 use lib.ListN.{length, drop}
 use lib.Seq.{drop-drop}
 use Rattle.theory.proofs.Test.{same, same-refl, same-false}
-use Rattle.theory.proofs.Operations.{Op, idle, read, write, Setup, unready, word, owed, done, dropped, stopping}
+use Rattle.answers.specs.Answers.{done, dropped, stopping}
+use Rattle.theory.proofs.Operations.{Op, idle, read, write, Setup, unready, word, owed}
 use Rattle.theory.proofs.Calls.{after, after-append}
 use Rattle.theory.proofs.Ledger.{Ledger, Line, goes, stops, pastOf, Goes, servedL, retiredL, leaving, asking, free, given, noted, sram, owedL, givesL, cycleL, answerL, freshL, reachedL}
 

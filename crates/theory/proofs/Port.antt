@@ -1,12 +1,12 @@
 -- Demand 2, over every list of operations from a fresh start: the machine by position replies as the ledger, call by call. Assumes nothing.
 --
 -- For every legal setup, in both modes, over any words and any bank rule. The machine is that of Concrete.antt, the ledger that of Ledger.antt:
---   same-reply      answer (0 taken, 5 dropped, 6 stops, 7 was stopped) and delivery of the next call are the ledger's
+--   same-reply      answer (taken, dropped, stopping, stopped before) and delivery of the next call are the ledger's
 --   same-state      the machine is on exactly where the ledger goes; going or stopped, each buffer holds placed less served entries
 --   never-unready   no call delivers unready
 --   turn-position   of a going machine: turn and position are the number of operations passed, modulo m and C
 --   Tracks          the same for operations that are chosen as one goes: it holds of a fresh start, and every call keeps it
--- What the ledger's replies mean is in Past.antt (a read taken leaves delay cycles later), in Exact.antt (5 and 6 exactly when) and in Depths.antt.
+-- What the ledger's replies mean is in Past.antt (a read taken leaves delay cycles later), in Exact.antt (dropped and stopping exactly when) and in Depths.antt.
 use mathlib.Core.Path.{_≡_, refl, sym, ap, _∙_}
 use mathlib.Core.Logic.{_≢_}
 use mathlib.Core.Bool.{Bool}
