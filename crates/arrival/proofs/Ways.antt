@@ -8,7 +8,7 @@ use lib.Dec.{eqb}
 use lib.ListN.{length}
 use borrow.Author.Tests.{eq-eqb, ne-eqb}
 use Rattle.answers.specs.Answers.{done, dropped, stopping}
-use Rattle.setup.specs.Choice.{pick}
+use Rattle.choice.specs.Choice.{pick}
 use Rattle.setup.specs.declared.Setup.{Setup}
 use Rattle.setup.specs.Setup.{banksOf}
 use Rattle.map.specs.Map.{bankOf}
@@ -23,10 +23,11 @@ use Rattle.model.specs.declared.Entry.{Entry}
 use Rattle.model.specs.declared.Found.{Found}
 use Rattle.model.specs.declared.Found.the-variants.{At, Nothing}
 use Rattle.model.specs.declared.Cycled.{Cycled}
-use Rattle.model.specs.Lent.{Buffers, buffersIn, writeKind, waitingKind, rowWith, rowAt, putRow, emptyRow, back}
+use Rattle.rings.specs.Places.{back}
+use Rattle.model.specs.Lent.{Buffers, buffersIn, writeKind, waitingKind, rowWith, rowAt, putRow, emptyRow}
 use Rattle.model.specs.Cycle.{leaves, delivered, newestLive, newestWrite, placed, writeOf, readOf, retiredWrite, retired, readPlaced, joined, readMerged, readArrived, writeArrived, arrived, nextState, stoppedState, cycled, finished, afterService}
 use Rattle.model.proofs.Range.{head-oldest, head-count}
-use Rattle.model.proofs.Rings.{part-within}
+use Rattle.rings.proofs.Rings.{part-within}
 use Rattle.model.proofs.Buffers.{GoodBuffers}
 use Rattle.model.proofs.Arrival.{retired-buffers-good}
 use Rattle.buffers.specs.Bank.{Head, Buffer}

@@ -3,7 +3,7 @@ ghost use mathlib.Core.Path.{_≡_};
 ghost use Prim.Native.Nat.{_*_, _<_};
 ghost use lib.ListN.{length};
 ghost use Rattle.answers.specs.Answers.{done, dropped};
-ghost use Rattle.setup.specs.Choice.{pick};
+ghost use Rattle.choice.specs.Choice.{pick};
 ghost use Rattle.setup.specs.Setup.{Ranges};
 ghost use Rattle.model.specs.Lent.{buffersIn, emptyRow};
 ghost use Rattle.model.specs.Cycle.{leaves, delivered, newestLive, newestWrite, writeOf, readOf, retiredWrite, retired, joined, readPlaced, readMerged, readArrived, writeArrived, arrived, nextState, stoppedState, cycled, finished, afterService};

@@ -13,9 +13,10 @@ use Rattle.setup.specs.declared.Setup.{Setup}
 use Rattle.map.specs.Map.{bankOf}
 use Rattle.model.proofs.Buffers.{placed-full, placed-room}
 use Rattle.model.proofs.Range.{head-oldest, head-count}
-use Rattle.model.proofs.Rings.{onward-below, part-within}
+use Rattle.rings.proofs.Rings.{onward-below, part-within}
 use Rattle.model.specs.Cycle.{oldestEntry, placedAt, placed}
-use Rattle.model.specs.Lent.{Buffers, buffersIn, lent, entryWith, entryAt, putEntry, oldestOf, countOf, putHead, onward}
+use Rattle.rings.specs.Places.{onward}
+use Rattle.model.specs.Lent.{Buffers, buffersIn, lent, entryWith, entryAt, putEntry, oldestOf, countOf, putHead}
 use Rattle.model.specs.Range.{Good, headOk}
 use Rattle.model.specs.declared.Entry.{Entry}
 use Rattle.buffers.specs.Bank.{Room, Head, Buffer}

@@ -7,8 +7,7 @@ use native.Mathlib.Omega.{arith}
 use lib.ListN.{length, take, set, length-take, length-drop, length-set}
 use lib.Seq.{getD-take, getD-drop, length-take-le, set-append-left}
 use borrow.Rule.Slice.PartMut.{midOf, postOf, putMid, put-same}
-use Rattle.model.proofs.Four.{fourAt}
-use Rattle.model.specs.Lent.{putFour}
+use Rattle.rings.specs.Places.{fourAt, putFour}
 
 set-append-right : (l r : List ℕ) (i v : ℕ) → set (l ++ r) (length l + i) v ≡ l ++ set r i v
 set-append-right [] r i v = rw zero-add

@@ -11,16 +11,17 @@ use borrow.Author.Tests.{le-leb, lt-leb, lt-ltb, le-ltb, eq-eqb, ne-eqb, eqb-tru
 use borrow.Rule.Slice.PartMut.{midOf}
 use Rattle.setup.specs.Setup.{wordsOf, banksOf}
 use Rattle.setup.specs.declared.Setup.{Setup}
-use Rattle.model.proofs.Rings.{onward-either, onward-none, onward-below, part-within}
+use Rattle.rings.proofs.Rings.{onward-either, onward-none, onward-below, part-within}
 use Rattle.model.proofs.Range.{head-ok, head-oldest, head-count, buffer-ok, buffer-head, buffers-each}
 use Rattle.model.proofs.Range as range
-use Rattle.model.proofs.Tests.{pick-either, below-or-not}
+use Rattle.choice.proofs.Tests.{pick-either, below-or-not}
 use Rattle.lanes.specs.Lanes.{pairsBelow, pairsTold, foursBelow}
 use Rattle.lanes.specs.declared.Told.{Told}
 use lib.Bits.{bitOr}
 use Rattle.flat.proofs.Flat.{le-or-l, le-or-r}
 use Rattle.lanes.proofs.Lanes.{pairs-each, pairs-every, fours-each}
-use Rattle.model.specs.Lent.{Buffers, buffersIn, entryWith, entryAt, oldestOf, countOf, onward}
+use Rattle.rings.specs.Places.{onward}
+use Rattle.model.specs.Lent.{Buffers, buffersIn, entryWith, entryAt, oldestOf, countOf}
 use Rattle.model.specs.Range.{entryOk, waitingEntry, entriesOk, headOk, bufferOk, buffersOk}
 use Rattle.model.specs.declared.Entry.{Entry}
 use Rattle.flat.proofs.Below.{said-no, below-more, below-out, below-all}

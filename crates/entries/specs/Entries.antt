@@ -4,10 +4,11 @@ use mathlib.Core.Bool.{Bool, true, _&&_}
 use mathlib.Core.List.{List}
 use mathlib.Core.Path.{_≡_}
 use lib.Dec.{eqb}
-use Rattle.setup.specs.Choice.{pick}
+use Rattle.choice.specs.Choice.{pick}
 use Rattle.setup.specs.declared.Setup.{Setup}
 use Rattle.setup.specs.Setup.{banksOf}
-use Rattle.model.specs.Lent.{Buffers, countOf, entryAt, onward}
+use Rattle.rings.specs.Places.{onward}
+use Rattle.model.specs.Lent.{Buffers, countOf, entryAt}
 use Rattle.model.specs.Range.{entryOk, headOk}
 use Rattle.buffers.specs.Bank.{Room}
 

@@ -15,9 +15,9 @@ use Rattle.flat.proofs.Parts.{part-free}
 use Rattle.model.specs.Lent.{rowAt, waitingKind}
 use Rattle.model.specs.Cycle.{lacks, filledRow, filledBelow}
 use Rattle.model.specs.declared.Row.{Row}
-use Rattle.model.proofs.Tests.{pick-either, same-or-not, below-or-not}
+use Rattle.choice.proofs.Tests.{pick-either, same-or-not, below-or-not}
 use Rattle.model.proofs.Rows.{filled, length-filled-row, row-filled-same, row-filled-other, length-filled, row-filled-above, row-filled-below}
-use Rattle.model.proofs.Four.{rows-same}
+use Rattle.model.proofs.Lent.{rows-same}
 use Rattle.filling.specs.Filling.{Has, Calm, filledFrom}
 
 -- rows of which none lacks a word stay as they are; and one by one

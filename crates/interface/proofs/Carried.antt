@@ -7,7 +7,7 @@ use mathlib.Core.Path.{_≡_, refl, ap, _∙_}
 use lib.Dec.{eqb}
 use borrow.Author.Tests.{leb-true}
 use Rattle.answers.specs.Answers.{done, badSetup, badLength}
-use Rattle.setup.specs.Choice.{pick}
+use Rattle.choice.specs.Choice.{pick}
 use Rattle.setup.specs.declared.Setup.{Setup}
 use Rattle.setup.specs.Setup.{withDefaults, inRange, checkedOf}
 use Rattle.port.specs.declared.Operation as port

@@ -5,13 +5,14 @@ use native.Mathlib.Omega.{arith}
 use mathlib.Core.Path.{_≡_, refl, sym, _∙_, subst}
 use mathlib.Core.Bool.{Bool, true, false, and-false}
 use mathlib.Core.List.{List}
-use Rattle.setup.specs.Choice.{pick}
-use Rattle.model.specs.Lent.{rowAt, back}
+use Rattle.choice.specs.Choice.{pick}
+use Rattle.rings.specs.Places.{back}
+use Rattle.model.specs.Lent.{rowAt}
 use Rattle.model.specs.Cycle.{scan}
 use Rattle.model.specs.declared.Row.{Row}
 use Rattle.model.specs.declared.Found.{Found}
 use Rattle.model.specs.declared.Found.the-variants.{At, Nothing}
-use Rattle.model.proofs.Rings.{back-straight, back-round}
+use Rattle.rings.proofs.Rings.{back-straight, back-round}
 use Rattle.flat.specs.Flat.{block, times}
 use Rattle.lookup.specs.Lookup.{Within, Alone, Nearby, wanted}
 use Rattle.flat.proofs.Parts.{part-free, part-alone}

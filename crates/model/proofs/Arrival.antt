@@ -6,7 +6,7 @@ use mathlib.Core.Bool.{Bool, true}
 use mathlib.Core.List.{List}
 use lib.Dec.{eqb}
 use borrow.Author.Tests.{ltb-true, eqb-true}
-use Rattle.setup.specs.Choice.{pick}
+use Rattle.choice.specs.Choice.{pick}
 use Rattle.setup.specs.Setup.{Ranges, wordsOf}
 use Rattle.setup.specs.declared.Setup.{Setup}
 use Rattle.map.specs.declared.Address.{Address}
@@ -20,7 +20,7 @@ use Rattle.model.specs.Lent.{Lent, Buffers, writeKind, readKind, waiting
 use Rattle.model.specs.Range.{rowOk, entryOk, Good}
 use Rattle.model.specs.Cycle.{isOf, newestLive, newestWrite, placed, writeOf, readOf, retiredWrite, retired, Arrived, seated, readPlaced, joined, readMerged, arrived}
 use Rattle.model.specs.Calls.{addressOk}
-use Rattle.model.proofs.Tests.{pick-good, pick-either}
+use Rattle.choice.proofs.Tests.{pick-good, pick-either}
 use Rattle.model.proofs.Range.{row-ok, row-link, entry-ok}
 use Rattle.model.proofs.Rows.{GoodRows, put-row-good, scan-below}
 use Rattle.model.proofs.Buffers.{GoodBuffers, placed-good}

@@ -7,7 +7,7 @@ use mathlib.Core.Bool.{Bool, true, false, false≢true, true≢false}
 use mathlib.Core.List.{List, [], _∷_, _++_, append-nil, append-assoc}
 use lib.ListN.{length, length-map}
 use Rattle.answers.specs.Answers.{done, badAddress, stopped}
-use Rattle.setup.specs.Choice.{pick}
+use Rattle.choice.specs.Choice.{pick}
 use Rattle.setup.specs.Setup.{Ranges, banksOf, merging}
 use Rattle.setup.specs.declared.Setup.{Setup}
 use Rattle.map.specs.Map.{cellOf}

@@ -13,12 +13,13 @@ use Rattle.setup.specs.declared.Setup.{Setup}
 use Rattle.map.specs.Map.{bankOf}
 use Rattle.map.proofs.Split.{bank-below}
 use Rattle.model.specs.declared.Entry.{Entry}
-use Rattle.model.specs.Lent.{Buffers, buffersIn, entryAt, oldestOf, countOf, onward}
+use Rattle.rings.specs.Places.{onward}
+use Rattle.model.specs.Lent.{Buffers, buffersIn, entryAt, oldestOf, countOf}
 use Rattle.model.specs.Range.{entryOk, waitingEntry, headOk}
 use Rattle.model.specs.Cycle.{oldestEntry, popped, placedAt, placed}
-use Rattle.model.proofs.Tests.{pick-either, same-or-not, below-or-not}
-use Rattle.model.proofs.Four.{length-put-entry, entry-put-same, entry-put-other}
-use Rattle.model.proofs.Rings.{onward-none, onward-below, onward-next, onward-differ, part-within, parts-differ, length-put-head, oldest-put-same, oldest-put-other, count-put-same, count-put-other}
+use Rattle.choice.proofs.Tests.{pick-either, same-or-not, below-or-not}
+use Rattle.model.proofs.Lent.{length-put-entry, entry-put-same, entry-put-other, length-put-head, oldest-put-same, oldest-put-other, count-put-same, count-put-other}
+use Rattle.rings.proofs.Rings.{onward-none, onward-below, onward-next, onward-differ, part-within, parts-differ}
 use Rattle.model.proofs.Range.{head-ok, head-oldest, head-count}
 
 -- the part of `Good` that speaks of the buffers

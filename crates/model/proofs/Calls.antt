@@ -7,7 +7,7 @@ use mathlib.Core.List.{List, [], _∷_}
 use lib.Dec.{eqb}
 use borrow.Author.Tests.{eqb-true}
 use Rattle.answers.specs.Answers.{done, badLength, badState, badAddress, stopped}
-use Rattle.setup.specs.Choice.{pick}
+use Rattle.choice.specs.Choice.{pick}
 use Rattle.setup.specs.Setup.{Ranges, checkedOf}
 use Rattle.setup.specs.declared.Setup.{Setup}
 use Rattle.setup.specs.declared.Checked.{Checked}
@@ -21,7 +21,7 @@ use Rattle.model.specs.Lent.{Lent}
 use Rattle.model.specs.Range.{lengthsOk, numbersOk, Ready}
 use Rattle.model.specs.Calls.{startOf, freshIn, freshOf, addressOk, refusalOf, turnOf, cycleIn, cycleOf}
 use Rattle.model.specs.Runs.{Machine, after, afterAll, fresh}
-use Rattle.model.proofs.Tests.{pick-either}
+use Rattle.choice.proofs.Tests.{pick-either}
 use Rattle.model.proofs.Range.{ready, ready-lengths, ready-numbers}
 use Rattle.model.proofs.Ready.{fresh-ready, passed-ready}
 

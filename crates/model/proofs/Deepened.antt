@@ -9,7 +9,7 @@ use lib.Dec.{eqb}
 use lib.ListN.{length, take, drop}
 use borrow.Author.Tests.{eqb-true, eqb-false, ne-eqb}
 use Rattle.answers.specs.Answers.{dropped, stopping}
-use Rattle.setup.specs.Choice.{pick}
+use Rattle.choice.specs.Choice.{pick}
 use Rattle.setup.specs.Setup.{banksOf, merging}
 use Rattle.setup.specs.declared.Setup.{Setup}
 use Rattle.map.specs.Map.{cellOf, bankOf, bankAt}
@@ -23,7 +23,7 @@ use Rattle.model.specs.Calls.{addressOk}
 use Rattle.model.specs.Sram.{wrote, touched, some, due}
 use Rattle.model.specs.Ledger.{Ledger, waits, serviced, Need, nowhere, at, retiring, retires, arrives, full, given, landed, passing, entered}
 use Rattle.model.specs.Depths.{Deeper}
-use Rattle.model.proofs.Tests.{pick-good}
+use Rattle.choice.proofs.Tests.{pick-good}
 use Rattle.model.proofs.Booked.{entered-halted, entered-refused, entered-passes}
 
 ------------------------------------------------------------------------

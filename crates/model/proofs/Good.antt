@@ -11,7 +11,7 @@ use Rattle.model.specs.declared.Entry.{Entry}
 use Rattle.model.specs.Lent.{Lent, Buffers, lent, buffersIn, readEntry, writeEntry, emptyKind, waitingKind, rowAt, oldestOf, countOf}
 use Rattle.model.specs.Range.{entryOk, Good}
 use Rattle.model.specs.Cycle.{oldestEntry}
-use Rattle.model.proofs.Rings.{part-within}
+use Rattle.rings.proofs.Rings.{part-within}
 use Rattle.model.proofs.Range.{row-address, row-link, entry-kind, entry-cell, entry-row}
 use Rattle.model.proofs.Rows.{GoodRows}
 use Rattle.model.proofs.Buffers.{GoodBuffers, oldest-below, count-most, oldest-ok}

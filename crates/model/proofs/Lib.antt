@@ -1,6 +1,4 @@
-pub mod Tests
-pub mod Four
-pub mod Rings
+pub mod Lent
 pub mod Range
 pub mod Rows
 pub mod Buffers

@@ -4,7 +4,7 @@ use mathlib.Core.Path.{_≡_, refl}
 use mathlib.Core.Bool.{Bool, true, false, cond, _&&_}
 use mathlib.Core.List.{List, [], _∷_, map}
 use lib.ListN.{getD, take, drop}
-use Rattle.setup.specs.Choice.{pick}
+use Rattle.choice.specs.Choice.{pick}
 use Rattle.setup.specs.Setup.{Ranges, wordsOf, merging}
 use Rattle.setup.specs.declared.Setup.{Setup}
 use Rattle.map.specs.Map.{cellOf, bankAt}

@@ -12,7 +12,7 @@ use Rattle.model.specs.declared.Row.{Row}
 use Rattle.model.specs.declared.Entry.{Entry}
 use Rattle.model.specs.Lent.{Lent, Buffers, emptyKind, waitingKind, rowAt, readEntry, writeEntry, oldestOf, countOf}
 use Rattle.model.specs.Range.{lengthsOk, rowOk, rowsOk, entryOk, waitingEntry, entriesOk, headOk, bufferOk, buffersOk, numbersOk, Good, Ready}
-use Rattle.model.proofs.Tests.{and-true, or-true, or-r, not-or-true, not-or-r}
+use Rattle.choice.proofs.Tests.{and-true, or-true, or-r, not-or-true, not-or-r}
 use Rattle.flat.proofs.Below.{each-below, all-below}
 
 ------------------------------------------------------------------------

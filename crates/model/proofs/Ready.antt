@@ -17,7 +17,7 @@ use Rattle.model.specs.Lent.{Lent, Buffers, buffersIn, rowAt, emptyRow, 
 use Rattle.model.specs.Range.{lengthsOk, rowOk, Good, Ready}
 use Rattle.model.specs.Cycle.{served, delivered, retired, nextState, going, withMemory, afterService, passed}
 use Rattle.model.specs.Calls.{addressOk, freshState, freshLent}
-use Rattle.model.proofs.Rings.{onward-below}
+use Rattle.rings.proofs.Rings.{onward-below}
 use Rattle.model.proofs.Range.{head-ok}
 use Rattle.model.proofs.Rows.{GoodRows}
 use Rattle.model.proofs.Buffers.{GoodBuffers}

@@ -9,19 +9,20 @@ use mathlib.Core.List.{List}
 use lib.Dec.{eqb}
 use lib.ListN.{length}
 use borrow.Author.Tests.{eqb-true}
-use Rattle.setup.specs.Choice.{pick}
+use Rattle.choice.specs.Choice.{pick}
 use Rattle.setup.specs.Setup.{wordsOf}
 use Rattle.setup.specs.declared.Setup.{Setup}
 use Rattle.setup.proofs.Ranges.{and-l}
 use Rattle.model.specs.declared.Row.{Row}
 use Rattle.model.specs.declared.Found.{Found}
 use Rattle.model.specs.declared.Found.the-variants.{At, Nothing}
-use Rattle.model.specs.Lent.{waitingKind, rowAt, putRow, back}
+use Rattle.rings.specs.Places.{back}
+use Rattle.model.specs.Lent.{waitingKind, rowAt, putRow}
 use Rattle.model.specs.Range.{rowOk}
 use Rattle.model.specs.Cycle.{lacks, withWord, filledRow, filledBelow, scan}
-use Rattle.model.proofs.Tests.{pick-good, pick-either, pick-map, below-or-not, same-or-not}
-use Rattle.model.proofs.Four.{length-put-row, row-put-same, row-put-other}
-use Rattle.model.proofs.Rings.{back-below}
+use Rattle.choice.proofs.Tests.{pick-good, pick-either, pick-map, below-or-not, same-or-not}
+use Rattle.model.proofs.Lent.{length-put-row, row-put-same, row-put-other}
+use Rattle.rings.proofs.Rings.{back-below}
 use Rattle.model.proofs.Range.{row-ok, row-address}
 
 -- the part of `Good` that speaks of the rows

@@ -14,7 +14,7 @@ use Rattle.model.specs.declared.Entry.{Entry}
 use Rattle.model.specs.Lent.{Lent, writeEntry, countOf}
 use Rattle.model.specs.Range.{Good}
 use Rattle.model.specs.Cycle.{filledBelow, carried, oldestEntry, withCarried, servedBank, servedIf, servedBelow, served}
-use Rattle.model.proofs.Tests.{pick-good}
+use Rattle.choice.proofs.Tests.{pick-good}
 use Rattle.model.proofs.Rows.{GoodRows, filled-good}
 use Rattle.model.proofs.Buffers.{withPopped, popped-good}
 use Rattle.model.proofs.Good.{good-rows, good-buffers, good-parts}

@@ -13,7 +13,7 @@ use Rattle.model.specs.declared.Entry.{Entry}
 use Rattle.model.specs.Lent.{Buffers, countOf}
 use Rattle.model.specs.Range.{waitingEntry}
 use Rattle.model.specs.Cycle.{oldestEntry, placedAt}
-use Rattle.model.proofs.Tests.{below-or-not}
+use Rattle.choice.proofs.Tests.{below-or-not}
 use Rattle.model.proofs.Buffers.{GoodBuffers, oldest-below, count-most, waiting-first, withPopped, count-popped, count-popped-other, waiting-popped, waiting-popped-other, count-placed, count-placed-other, waiting-placed-below, waiting-placed-last, waiting-placed-other}
 use Rattle.model.proofs.Lists.{below, length-below, below-same, below-last}
 use Rattle.model.proofs.Shown.{shownEntry, shownBuf}

@@ -8,7 +8,7 @@ use mathlib.Core.List.{List}
 use lib.Dec.{eqb}
 use lib.ListN.{getD}
 use borrow.Author.Tests.{ltb-true}
-use Rattle.setup.specs.Choice.{pick}
+use Rattle.choice.specs.Choice.{pick}
 use Rattle.setup.specs.Setup.{merging, wordsOf, banksOf}
 use Rattle.setup.specs.declared.Setup.{Setup}
 use Rattle.map.specs.Map.{cellOf, bankOf}
@@ -21,12 +21,13 @@ use Rattle.model.specs.declared.Row.{Row}
 use Rattle.model.specs.declared.Entry.{Entry}
 use Rattle.model.specs.declared.Found.{Found}
 use Rattle.model.specs.declared.Found.the-variants.{At, Nothing}
-use Rattle.model.specs.Lent.{Lent, Buffers, emptyKind, writeKind, readKind, waitingKind, rowWith, rowAt, emptyRow, countOf, back}
+use Rattle.rings.specs.Places.{back}
+use Rattle.model.specs.Lent.{Lent, Buffers, emptyKind, writeKind, readKind, waitingKind, rowWith, rowAt, emptyRow, countOf}
 use Rattle.model.specs.Range.{rowOk, Good}
 use Rattle.model.specs.Cycle.{delivered, isOf, newestLive, newestWrite, placedAt, placed, writeOf, readOf, retiredWrite, retiredRow, retired, Arrived, noted, seated, readPlaced, joined, readMerged, arrived, nextState}
 use Rattle.model.specs.Calls.{addressOk}
-use Rattle.model.proofs.Tests.{pick-good, same-or-not}
-use Rattle.model.proofs.Rings.{back-below}
+use Rattle.choice.proofs.Tests.{pick-good, same-or-not}
+use Rattle.rings.proofs.Rings.{back-below}
 use Rattle.model.proofs.Range.{row-kind, row-address}
 use Rattle.model.proofs.Rows.{GoodRows, scan-below}
 use Rattle.model.proofs.Buffers.{count-most, placed-full, placed-room}

@@ -11,8 +11,8 @@ use Rattle.setup.specs.declared.Setup.{Setup}
 use Rattle.map.specs.Map.{cellOf}
 use Rattle.map.specs.declared.Address.{Address}
 use Rattle.map.proofs.OneToOne.{one-to-one}
-use Rattle.model.specs.Lent.{onward, back}
-use Rattle.model.proofs.Rings.{onward-either, back-straight, back-round}
+use Rattle.rings.specs.Places.{onward, back}
+use Rattle.rings.proofs.Rings.{onward-either, back-straight, back-round}
 use Rattle.theory.proofs.Test.{same, lt, Says, is, isnt, same?, lt?}
 use Rattle.theory.proofs.Table as table
 use Rattle.theory.proofs.Concrete.{ago}

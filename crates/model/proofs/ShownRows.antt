@@ -7,7 +7,7 @@ use mathlib.Core.List.{List}
 use lib.Dec.{eqb}
 use lib.ListN.{getD, set}
 use lib.Seq.{ext-getD}
-use Rattle.setup.specs.Choice.{pick}
+use Rattle.choice.specs.Choice.{pick}
 use Rattle.setup.specs.Setup.{Ranges, wordsOf}
 use Rattle.setup.specs.declared.Setup.{Setup}
 use Rattle.map.specs.Map.{cellOf}
@@ -15,12 +15,13 @@ use Rattle.map.specs.declared.Address.{Address}
 use Rattle.model.specs.declared.Row.{Row}
 use Rattle.model.specs.declared.Found.{Found}
 use Rattle.model.specs.declared.Found.the-variants.{At, Nothing}
-use Rattle.model.specs.Lent.{emptyKind, writeKind, readKind, waitingKind, rowWith, rowAt, putRow, back}
+use Rattle.rings.specs.Places.{back}
+use Rattle.model.specs.Lent.{emptyKind, writeKind, readKind, waitingKind, rowWith, rowAt, putRow}
 use Rattle.model.specs.Range.{rowOk}
 use Rattle.model.specs.Cycle.{filledBelow, leaves, scan, isOf, writes}
-use Rattle.model.proofs.Tests.{pick-either}
-use Rattle.model.proofs.Four.{row-put-same, row-put-other}
-use Rattle.model.proofs.Rings.{back-below}
+use Rattle.choice.proofs.Tests.{pick-either}
+use Rattle.model.proofs.Lent.{row-put-same, row-put-other}
+use Rattle.rings.proofs.Rings.{back-below}
 use Rattle.model.proofs.Range.{row-kind, row-address}
 use Rattle.model.proofs.Rows.{GoodRows, filled, row-filled-below}
 use Rattle.model.proofs.Lists.{length-below, getD-below, set-below}

@@ -9,7 +9,7 @@ use mathlib.Core.List.{List, [], _∷_}
 use lib.Dec.{eqb}
 use lib.ListN.{length, getD, set}
 use lib.Seq.{getD-set-same, getD-set-other}
-use Rattle.setup.specs.Choice.{pick}
+use Rattle.choice.specs.Choice.{pick}
 use Rattle.setup.specs.Setup.{wordsOf, banksOf}
 use Rattle.setup.specs.declared.Setup.{Setup}
 use Rattle.model.specs.declared.State.{State}
@@ -17,7 +17,7 @@ use Rattle.model.specs.declared.Entry.{Entry}
 use Rattle.model.specs.Lent.{Lent, writeEntry, countOf}
 use Rattle.model.specs.Range.{Good}
 use Rattle.model.specs.Cycle.{filledBelow, carried, oldestEntry, withCarried, servedBank, servedIf, servedBelow, served}
-use Rattle.model.proofs.Tests.{same-or-not}
+use Rattle.choice.proofs.Tests.{same-or-not}
 use Rattle.model.proofs.Range.{entry-cell}
 use Rattle.model.proofs.Rows.{GoodRows}
 use Rattle.model.proofs.Buffers.{oldest-ok, withPopped}

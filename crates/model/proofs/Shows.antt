@@ -7,7 +7,7 @@ use mathlib.Core.Bool.{Bool, true, false, cond}
 use mathlib.Core.List.{List}
 use lib.ListN.{length, getD, replicate, length-replicate, List·getD-eq-default}
 use Rattle.answers.specs.Answers.{done, dropped}
-use Rattle.setup.specs.Choice.{pick}
+use Rattle.choice.specs.Choice.{pick}
 use Rattle.setup.specs.Setup.{Ranges, merging, banksOf}
 use Rattle.setup.specs.declared.Setup.{Setup}
 use Rattle.port.specs.declared.Operation.{Operation}
@@ -17,7 +17,7 @@ use Rattle.model.specs.Lent.{Lent, Buffers, rowAt, countOf}
 use Rattle.model.specs.Range.{Good, Ready}
 use Rattle.model.specs.Cycle.{served, delivered, retired, arrived, nextState, going, withMemory, afterService, passed}
 use Rattle.model.specs.Calls.{addressOk, freshState, freshLent}
-use Rattle.model.proofs.Tests.{below-or-not}
+use Rattle.choice.proofs.Tests.{below-or-not}
 use Rattle.model.proofs.Good.{withBuffers}
 use Rattle.model.proofs.Service.{served-good}
 use Rattle.model.proofs.Arrival.{retired-good, withArrived}

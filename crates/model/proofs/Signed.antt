@@ -10,7 +10,7 @@ use lib.ListN.{length, getD, drop, length-append, length-map}
 use lib.Seq.{drop-at}
 use borrow.Author.Tests.{lt-ltb}
 use Rattle.answers.specs.Answers.{done, badAddress, dropped, stopping, stopped}
-use Rattle.setup.specs.Choice.{pick}
+use Rattle.choice.specs.Choice.{pick}
 use Rattle.setup.specs.declared.Setup.{Setup}
 use Rattle.setup.specs.declared.Checked.{Checked}
 use Rattle.setup.specs.declared.Checked.the-variants.{Good as InRange, Refused}

@@ -4,7 +4,7 @@ use mathlib.Core.Path.{_≡_, refl, ap, _∙_}
 use mathlib.Core.Bool.{Bool, true, false}
 use lib.Dec.{eqb, ltb}
 use Rattle.answers.specs.Answers.{done, badSetup, badLength, badState, badAddress, stopped}
-use Rattle.setup.specs.Choice.{pick}
+use Rattle.choice.specs.Choice.{pick}
 use Rattle.setup.specs.Setup.{withDefaults, inRange, banksOf}
 use Rattle.setup.specs.declared.Setup.{Setup}
 use Rattle.setup.specs.declared.Checked.the-variants.{Good as InRange, Refused}

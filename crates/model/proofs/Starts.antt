@@ -3,7 +3,7 @@ use mathlib.Core.Path.{_≡_, refl}
 use mathlib.Core.Bool.{Bool, true, false}
 use native.Mathlib.Omega.{arith}
 use Rattle.answers.specs.Answers.{done, badLength}
-use Rattle.setup.specs.Choice.{pick}
+use Rattle.choice.specs.Choice.{pick}
 use Rattle.setup.specs.declared.Setup.{Setup}
 use Rattle.setup.specs.declared.Checked.the-variants.{Good as InRange, Refused}
 use Rattle.setup.specs.Setup.{inRange, withDefaults, checkedOf}

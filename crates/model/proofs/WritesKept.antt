@@ -7,7 +7,7 @@ use mathlib.Core.Bool.{Bool, true, false, false≢true}
 use mathlib.Core.List.{List, [], _∷_, _++_, append-nil, append-assoc}
 use lib.ListN.{length, drop}
 use Rattle.answers.specs.Answers.{done, dropped}
-use Rattle.setup.specs.Choice.{pick}
+use Rattle.choice.specs.Choice.{pick}
 use Rattle.setup.specs.Setup.{Ranges, wordsOf, merging}
 use Rattle.setup.specs.declared.Setup.{Setup}
 use Rattle.map.specs.Map.{cellOf}
@@ -21,7 +21,7 @@ use Rattle.model.specs.Sram.{wrote, due}
 use Rattle.model.specs.Ledger.{Ledger, serviced, retires, full, given, landed, entered}
 use Rattle.model.specs.Promises.{promised, booked}
 use Rattle.model.specs.Depths.{WritesKept}
-use Rattle.model.proofs.Tests.{pick-good}
+use Rattle.choice.proofs.Tests.{pick-good}
 use Rattle.model.proofs.Config.{configOf, shownOp}
 use Rattle.model.proofs.Cells.{ok-below, wrote-rewrites}
 use Rattle.model.proofs.BookedRuns.{startFrom, ledgerFrom, replyFrom, repliesFrom, booked-last, shownOps, lineOf, shown-append, answer-from}

@@ -5,7 +5,7 @@ use mathlib.Core.List.{List}
 use lib.Dec.{eqb}
 use lib.ListN.{getD, set}
 use Rattle.answers.specs.Answers.{done, dropped, stopping}
-use Rattle.setup.specs.Choice.{pick}
+use Rattle.choice.specs.Choice.{pick}
 use Rattle.setup.specs.Setup.{merging, banksOf}
 use Rattle.setup.specs.declared.Setup.{Setup}
 use Rattle.map.specs.Map.{cellOf, bankOf}
@@ -20,7 +20,8 @@ use Rattle.model.specs.declared.Entry.{Entry}
 use Rattle.model.specs.declared.Found.{Found}
 use Rattle.model.specs.declared.Found.the-variants.{At, Nothing}
 use Rattle.model.specs.declared.Cycled.{Cycled}
-use Rattle.model.specs.Lent.{Lent, Buffers, buffersIn, emptyKind, writeKind, readKind, waitingKind, rowWith, rowAt, putRow, emptyRow, readEntry, writeEntry, entryWith, entryAt, putEntry, oldestOf, countOf, putHead, onward, back}
+use Rattle.rings.specs.Places.{onward, back}
+use Rattle.model.specs.Lent.{Lent, Buffers, buffersIn, emptyKind, writeKind, readKind, waitingKind, rowWith, rowAt, putRow, emptyRow, readEntry, writeEntry, entryWith, entryAt, putEntry, oldestOf, countOf, putHead}
 
 ------------------------------------------------------------------------
 -- 1. Service. Each bank b with b mod m = t mod m, in rising b, takes the oldest entry of its buffer, if any.

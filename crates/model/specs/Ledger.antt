@@ -5,7 +5,7 @@ use mathlib.Core.List.{List, [], _∷_}
 use lib.Dec.{eqb, ltb}
 use lib.ListN.{length, take, drop}
 use Rattle.answers.specs.Answers.{done, badAddress, dropped, stopping, stopped}
-use Rattle.setup.specs.Choice.{pick}
+use Rattle.choice.specs.Choice.{pick}
 use Rattle.setup.specs.Setup.{merging}
 use Rattle.setup.specs.declared.Setup.{Setup}
 use Rattle.map.specs.Map.{bankAt}

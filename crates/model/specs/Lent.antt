@@ -1,9 +1,8 @@
 -- What is lent, and how rows, entries and the heads of the buffers are laid out in it.
-use Prim.Native.Nat.{ℕ, _+_, _-_, _*_}
+use Prim.Native.Nat.{ℕ, _+_, _*_}
 use mathlib.Core.List.{List}
-use lib.Dec.{ltb}
 use lib.ListN.{getD, set}
-use Rattle.setup.specs.Choice.{pick}
+use Rattle.rings.specs.Places.{fourAt, putFour}
 use Rattle.model.specs.declared.Row.{Row}
 use Rattle.model.specs.declared.Entry.{Entry}
 
@@ -23,12 +22,6 @@ buffersIn entries heads = record { entries = entries; heads = heads }
 
 abbrev pub lent : List ℕ → List ℕ → List ℕ → List ℕ → Lent
 lent memory rows entries heads = record { memory = memory; rows = rows; buffers = buffersIn entries heads }
-
-------------------------------------------------------------------------
--- Four numbers at a place
-
-abbrev pub putFour : List ℕ → ℕ → ℕ → ℕ → ℕ → ℕ → List ℕ
-putFour l i a b c d = set (set (set (set l (4 * i) a) (4 * i + 1) b) (4 * i + 2) c) (4 * i + 3) d
 
 ------------------------------------------------------------------------
 -- Rows: c kinds, then c addresses, then c links, then c words
@@ -73,7 +66,7 @@ abbrev pub entryWith : ℕ → ℕ → ℕ → ℕ → Entry
 entryWith kind row cell word = record { kind = kind; row = row; cell = record { 0 = cell }; word = word }
 
 abbrev pub entryAt : List ℕ → ℕ → Entry
-entryAt l i = entryWith (getD l (4 * i) 0) (getD l (4 * i + 1) 0) (getD l (4 * i + 2) 0) (getD l (4 * i + 3) 0)
+entryAt l i = fourAt entryWith l i
 
 abbrev pub putEntry : List ℕ → ℕ → Entry → List ℕ
 putEntry l i e = putFour l i (e .kind) (e .row) (e .cell .0) (e .word)
@@ -89,14 +82,3 @@ countOf heads b = getD heads (2 * b + 1) 0
 
 abbrev pub putHead : List ℕ → ℕ → ℕ → ℕ → List ℕ
 putHead heads b oldest count = set (set heads (2 * b) oldest) (2 * b + 1) count
-
-------------------------------------------------------------------------
--- Places that go round
-
--- n places on from i, of c
-abbrev pub onward : ℕ → ℕ → ℕ → ℕ
-onward c i n = pick (ltb (i + n) c) (i + n) (i + n - c)
-
--- n places back from i, of c
-abbrev pub back : ℕ → ℕ → ℕ → ℕ
-back c i n = pick (ltb i n) (i + c - n) (i - n)

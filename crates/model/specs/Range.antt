@@ -11,7 +11,8 @@ use Rattle.model.specs.declared.State.{State}
 use Rattle.model.specs.declared.Lengths.{Lengths}
 use Rattle.model.specs.declared.Row.{Row}
 use Rattle.model.specs.declared.Entry.{Entry}
-use Rattle.model.specs.Lent.{Lent, Buffers, emptyKind, waitingKind, rowAt, readEntry, writeEntry, entryAt, oldestOf, countOf, onward}
+use Rattle.rings.specs.Places.{onward}
+use Rattle.model.specs.Lent.{Lent, Buffers, emptyKind, waitingKind, rowAt, readEntry, writeEntry, entryAt, oldestOf, countOf}
 
 -- memory of N words, room for C rows and room for B·K entries, and two numbers a bank
 abbrev pub lengthsOf : Setup → Lengths

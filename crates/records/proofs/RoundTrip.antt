@@ -9,7 +9,7 @@ use lib.Dec.{eqb, lit<}
 use lib.ListN.{length, drop-of-length-le}
 use lib.Pow.{pow-mono}
 use borrow.Author.Tests.{eqb-true}
-use Rattle.setup.specs.Choice.{pick}
+use Rattle.choice.specs.Choice.{pick}
 use Rattle.setup.specs.Setup.{withDefaults, checkedOf, Ranges}
 use Rattle.setup.specs.declared.Setup.{Setup}
 use Rattle.setup.proofs.Ranges.{and-l, and-r, good-ranges}

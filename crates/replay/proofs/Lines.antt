@@ -10,7 +10,7 @@ use mathlib.Core.Logic.{⊎-elim}
 use lib.ListN.{length, take, drop, length-append, length-drop}
 use lib.Seq.{take-all}
 use Rattle.answers.specs.Answers.{badRecord}
-use Rattle.setup.specs.Choice.{pick}
+use Rattle.choice.specs.Choice.{pick}
 use Rattle.setup.specs.declared.Setup.{Setup}
 use Rattle.port.specs.declared.Operation.{Operation}
 use Rattle.port.specs.declared.Delivery.{Delivery}

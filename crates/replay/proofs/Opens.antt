@@ -11,7 +11,7 @@ use lib.Pow.{pow-mono}
 use borrow.Author.Tests.{eq-eqb, ne-eqb, leb-true}
 use Rattle.answers.specs.Answers.{done, badSetup, roomTooSmall}
 use Rattle.setup.specs.Setup.{Ranges, leastDelta, withDefaults, inRange, checkedOf, wordsOf, banksOf}
-use Rattle.setup.specs.Choice.{pick}
+use Rattle.choice.specs.Choice.{pick}
 use Rattle.setup.specs.declared.Setup.{Setup}
 use Rattle.setup.specs.declared.Checked.{Checked}
 use Rattle.setup.proofs.Ranges.{and-l, and-r, good-ranges, banks-most}

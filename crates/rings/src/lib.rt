@@ -2,7 +2,7 @@
 ghost use mathlib.Core.Path.{_≡_};
 ghost use Prim.Native.Nat.{_+_, _*_, _≤_, _<_};
 ghost use lib.ListN.{length};
-ghost use Rattle.model.specs.Lent.{putFour, onward, back};
+ghost use Rattle.rings.specs.Places.{putFour, onward, back};
 
 // Puts four numbers at place i.
 pub fn put_four(room: &mut [u32], i: usize, a: u32, b: u32, c: u32, d: u32)

@@ -5,7 +5,7 @@ use mathlib.Core.List.{List}
 use native.Mathlib.Omega.{arith}
 use lib.Dec.{eqb}
 use lib.ListN.{length, getD, set}
-use Rattle.model.proofs.Tests.{pick-good}
+use Rattle.choice.proofs.Tests.{pick-good}
 use Rattle.entries.specs.Entries.{nextWaiting}
 use Rattle.entries.proofs.Waiting.{found-quiet}
 use Rattle.setup.specs.declared.Setup.{Setup}

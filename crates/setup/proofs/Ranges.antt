@@ -9,7 +9,7 @@ use borrow.Author.Tests.{leb-true, eqb-true}
 use Rattle.setup.specs.declared.Setup.{Setup}
 use Rattle.setup.specs.declared.Checked.{Checked}
 use Rattle.setup.specs.declared.Checked.the-variants.{Good, Refused}
-use Rattle.setup.specs.Choice.{pick}
+use Rattle.choice.specs.Choice.{pick}
 use Rattle.setup.specs.Setup.{sizesOk, restOk, inRange, Sizes, Ranges, withDefaults, checkedOf, wordsOf, banksOf}
 
 pub and-l : (x y : Bool) → x && y ≡ true → x ≡ true

@@ -4,7 +4,7 @@ use mathlib.Core.Path.{_≡_}
 use mathlib.Core.Bool.{Bool, _&&_}
 use lib.Dec.{leb, ltb, eqb}
 use Rattle.answers.specs.Answers.{done, badSetup}
-use Rattle.setup.specs.Choice.{pick}
+use Rattle.choice.specs.Choice.{pick}
 use Rattle.setup.specs.declared.Setup.{Setup}
 use Rattle.setup.specs.declared.Checked.{Checked}
 use Rattle.setup.specs.declared.Checked.the-variants.{Good, Refused}

@@ -4,7 +4,7 @@ use Prim.Native.Nat.{_≤_, _<_, _-_}
 use mathlib.Core.Path.{_≡_, refl}
 use mathlib.Core.Bool.{true}
 use native.Mathlib.Omega.{arith}
-use Rattle.model.specs.Lent.{onward}
+use Rattle.rings.specs.Places.{onward}
 use Rattle.entries.specs.Entries.{partOk}
 use Rattle.entries.proofs.Waiting.{at-first, at-next, part-more, part-out, part-all}
 use Rattle.entries.proofs.part_ok.Statement.{statement}

@@ -1,11 +1,11 @@
--- Laws on tests: joined tests, a choice by a test, and a test of every number below a bound. Assumes nothing.
+-- Laws on tests: joined tests, a choice by a test, and two numbers compared. Assumes nothing.
 use Prim.Native.Nat.{ℕ, _≤_, _<_}
 use mathlib.Core.Path.{_≡_, refl}
 use mathlib.Core.Logic.{_⊎_, inl, inr}
 use mathlib.Core.Bool.{Bool, true, false, not, _&&_, _||_}
 use lib.Dec.{ltb, eqb}
 use borrow.Author.Tests.{ltb-true, ltb-false, eqb-true, eqb-false}
-use Rattle.setup.specs.Choice.{pick}
+use Rattle.choice.specs.Choice.{pick}
 
 ------------------------------------------------------------------------
 -- Joined tests

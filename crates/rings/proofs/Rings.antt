@@ -1,20 +1,17 @@
--- Laws on places that go round, on the parts of the banks and on the heads of the buffers. Assumes nothing.
+-- Laws on steps that go round, and on the parts of the banks. Assumes nothing.
 use Prim.Native.Nat.{ℕ, _+_, _-_, _*_, _≤_, _<_}
 use native.Mathlib.Nat.{suc-mul, mul-le-mul-right}
 use native.Mathlib.Omega.{arith}
 use mathlib.Core.Path.{_≡_, sym, ap, _∙_}
 use mathlib.Core.Logic.{_⊎_, inl, inr, ⊎-elim}
-use mathlib.Core.List.{List}
 use lib.Dec.{ltb}
-use lib.ListN.{length, getD, set, length-set}
-use lib.Seq.{getD-set-same, getD-set-other}
 use borrow.Author.Tests.{lt-ltb, le-ltb}
-use Rattle.setup.specs.Choice.{pick}
-use Rattle.model.specs.Lent.{oldestOf, countOf, putHead, onward, back}
-use Rattle.model.proofs.Tests.{below-or-not, same-or-not}
+use Rattle.choice.specs.Choice.{pick}
+use Rattle.choice.proofs.Tests.{below-or-not, same-or-not}
+use Rattle.rings.specs.Places.{onward, back}
 
 ------------------------------------------------------------------------
--- Places that go round
+-- Steps that go round
 
 pub onward-straight : (c i n : ℕ) → i + n < c → onward c i n ≡ i + n
 onward-straight c i n h = rw (lt-ltb (i + n) c h)
@@ -87,28 +84,3 @@ parts-differ b b' k i j h l n e =
 
 pub part-same : (b b' k i j : ℕ) → i < k → j < k → b * k + i ≡ b' * k + j → b ≡ b'
 part-same b b' k i j h l e = ⊎-elim (λ w. w) (λ w. absurd (parts-differ b b' k i j h l w e)) (same-or-not b b')
-
-------------------------------------------------------------------------
--- Heads
-
-pub length-put-head : (l : List ℕ) (b oldest count : ℕ) → length (putHead l b oldest count) ≡ length l
-length-put-head l b oldest count = simp length-set
-
-module _ (l : List ℕ) (b oldest count : ℕ) where
-  pub oldest-put-same : 2 * b + 1 < length l → oldestOf (putHead l b oldest count) b ≡ oldest
-  oldest-put-same h =
-      getD-set-other (set l (2 * b) oldest) (2 * b + 1) (2 * b) count 0 (λ e. omega arith)
-      ∙ getD-set-same l (2 * b) oldest 0 (omega arith)
-
-  pub count-put-same : 2 * b + 1 < length l → countOf (putHead l b oldest count) b ≡ count
-  count-put-same h = getD-set-same (set l (2 * b) oldest) (2 * b + 1) count 0 (simp length-set h)
-
-  put-head-outside : (q : ℕ) → (q ≡ 2 * b → ⊥) → (q ≡ 2 * b + 1 → ⊥) → getD (putHead l b oldest count) q 0 ≡ getD l q 0
-  put-head-outside q m n =
-      getD-set-other (set l (2 * b) oldest) (2 * b + 1) q count 0 n ∙ getD-set-other l (2 * b) q oldest 0 m
-
-  pub oldest-put-other : (j : ℕ) → (j ≡ b → ⊥) → oldestOf (putHead l b oldest count) j ≡ oldestOf l j
-  oldest-put-other j n = put-head-outside (2 * j) (λ e. n (omega arith)) (λ e. omega arith)
-
-  pub count-put-other : (j : ℕ) → (j ≡ b → ⊥) → countOf (putHead l b oldest count) j ≡ countOf l j
-  count-put-other j n = put-head-outside (2 * j + 1) (λ e. omega arith) (λ e. n (omega arith))
