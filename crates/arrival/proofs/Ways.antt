@@ -10,7 +10,7 @@ use borrow.Author.Tests.{eq-eqb, ne-eqb}
 use Rattle.answers.specs.Answers.{done, dropped, stopping}
 use Rattle.choice.specs.Choice.{pick}
 use Rattle.setup.specs.declared.Setup.{Setup}
-use Rattle.setup.specs.Setup.{banksOf}
+use Rattle.setup.specs.Setup.{mapOf, banksOf}
 use Rattle.map.specs.Map.{bankOf}
 use Rattle.map.proofs.Split.{bank-below}
 use Rattle.map.specs.declared.Address.{Address}
@@ -54,8 +54,8 @@ module _ (s : Setup) (rows entries heads : List ℕ) (f : Fit s rows entries hea
       }
 
   -- the bank of any cell is one of the B
-  pub fit-place : (e : Entry) → Buffer s (bankOf s (e .cell)) (buffersIn entries heads)
-  fit-place e = fit-buffer (bankOf s (e .cell)) (bank-below s (e .cell))
+  pub fit-place : (e : Entry) → Buffer s (bankOf (mapOf s) (e .cell)) (buffersIn entries heads)
+  fit-place e = fit-buffer (bankOf (mapOf s) (e .cell)) (bank-below (mapOf s) (e .cell))
 
 -- what the calls on the table ask
 pub fit-row : (s : Setup) (rows entries heads : List ℕ) (i : ℕ) → Fit s rows entries heads → i < s .c → (length rows ≡ 4 * s .c) × (i < s .c)

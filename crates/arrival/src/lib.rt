@@ -46,7 +46,7 @@ fn write_entry(s: Setup, a: Address, word: u32) -> Entry
     requires { ⌜ Ranges s ⌝ }
     ensures { λ e. ⌜ e ≡ writeOf s a word ⌝ }
 {
-    let cell = a.cell(s);
+    let cell = a.cell(s.map());
     Entry {
         kind: Entry::WRITE,
         row: 0,
@@ -60,7 +60,7 @@ fn read_entry(s: Setup, position: u32, a: Address) -> Entry
     requires { ⌜ Ranges s ⌝ }
     ensures { λ e. ⌜ e ≡ readOf s position a ⌝ }
 {
-    let cell = a.cell(s);
+    let cell = a.cell(s.map());
     Entry {
         kind: Entry::READ,
         row: position,

@@ -8,9 +8,10 @@ use lib.Dec.{eqb}
 use lib.ListN.{length}
 use borrow.Author.Tests.{eqb-true, eqb-false}
 use borrow.Rule.Slice.PartMut.{midOf, putMid}
-use Rattle.setup.specs.Setup.{banksOf}
+use Rattle.setup.specs.Setup.{mapOf, banksOf}
 use Rattle.setup.specs.declared.Setup.{Setup}
 use Rattle.map.specs.Map.{bankOf}
+use Rattle.map.specs.declared.Map.{Map}
 use Rattle.model.proofs.Buffers.{placed-full, placed-room}
 use Rattle.model.proofs.Range.{head-oldest, head-count}
 use Rattle.rings.proofs.Rings.{onward-below, part-within}
@@ -83,17 +84,23 @@ module _ (s : Setup) (b : ℕ) (entries heads : List ℕ) (asked : Buffer s b (b
       rw (p, h, o, n)
       (ap (λ (x : List ℕ). buffersIn x (putHead heads b (oldestOf heads b) (countOf heads b + 1))) (bank-put entries b (s .k) j i e (asked .part-within)))
 
--- b is the bank of the entry's cell, count its buffer's count, and t says whether that is K
-module _ (s : Setup) (e : Entry) (entries heads : List ℕ) (b : ℕ) (a : b ≡ bankOf s (e .cell)) where
-  pub place-buffer : Buffer s (bankOf s (e .cell)) (buffersIn entries heads) → Buffer s b (buffersIn entries heads)
+-- map is the setup's, b the bank of the entry's cell, count its buffer's count, and t says whether that is K
+module _ (s : Setup) (e : Entry) (entries heads : List ℕ) (map : Map) (own : map ≡ mapOf s) (b : ℕ) (named : b ≡ bankOf map (e .cell)) where
+  a : b ≡ bankOf (mapOf s) (e .cell)
+  a = named ∙ ap (λ (x : Map). bankOf x (e .cell)) own
+
+  pub place-buffer : Buffer s (bankOf (mapOf s) (e .cell)) (buffersIn entries heads) → Buffer s b (buffersIn entries heads)
   place-buffer r = rw a r
 
+  pub place-within : Buffer s (bankOf (mapOf s) (e .cell)) (buffersIn entries heads) → 2 * b + 2 ≤ length heads
+  place-within r = place-buffer r .head .head-within
+
   module _ (count : ℕ) (n : count ≡ countOf heads b) where
-    pub place-most : Buffer s (bankOf s (e .cell)) (buffersIn entries heads) → count ≤ s .k
+    pub place-most : Buffer s (bankOf (mapOf s) (e .cell)) (buffersIn entries heads) → count ≤ s .k
     place-most r = let x : Buffer s b (buffersIn entries heads) = place-buffer r in omega arith
 
     module _ (t : Bool) (f : t ≡ eqb count (s .k)) where
-      pub place-room : Buffer s (bankOf s (e .cell)) (buffersIn entries heads) → t ≡ false → countOf heads b < s .k
+      pub place-room : Buffer s (bankOf (mapOf s) (e .cell)) (buffersIn entries heads) → t ≡ false → countOf heads b < s .k
       place-room r h = let l : count ≤ s .k = place-most r in omega (arith, eqb-false count (s .k) (sym f ∙ h))
 
       pub place-full : t ≡ true → (false, buffersIn entries heads) ≡ placed s e (buffersIn entries heads)

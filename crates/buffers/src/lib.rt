@@ -3,6 +3,7 @@ ghost use mathlib.Core.Path.{_≡_};
 ghost use Prim.Native.Nat.{_+_, _*_, _≤_, _<_};
 ghost use lib.Dec.{eqb};
 ghost use lib.ListN.{length};
+ghost use Rattle.setup.specs.Setup.{mapOf};
 ghost use Rattle.map.specs.Map.{bankOf};
 ghost use Rattle.rings.specs.Places.{onward};
 ghost use Rattle.model.specs.Lent.{buffersIn, entryAt, putEntry, oldestOf, countOf, putHead};
@@ -123,11 +124,11 @@ fn place_at(s: Setup, b: usize, e: Entry, entries: &mut [u32], heads: &mut [u32]
 
 // Places an entry in the buffer of its cell's bank; false, and nothing changed, where that holds K.
 pub fn place(s: Setup, e: Entry, entries: &mut [u32], heads: &mut [u32]) -> bool
-    requires { ⌜ Buffer s (bankOf s (e .cell)) (buffersIn (now entries) (now heads)) ⌝ }
+    requires { ⌜ Buffer s (bankOf (mapOf s) (e .cell)) (buffersIn (now entries) (now heads)) ⌝ }
     ensures { λ r. ⌜ (r, buffersIn (now (entries .exit)) (now (heads .exit))) ≡ placed s e (buffersIn (now (entries .entry)) (now (heads .entry))) ⌝ }
 {
     let cell = e.cell;
-    let b = cell.bank(s) as usize;
+    let b = cell.bank(s.map()) as usize;
     let count = count_at(heads, b);
     if full(s, count) {
         return false;

@@ -49,6 +49,6 @@ same-number a u v x y odd lx ly h =
 
 pub one-to-one : OneToOne
 unfolding cellOf
-one-to-one s x y g lx ly h =
+one-to-one map x y g lx ly h =
     ap (λ (n : ℕ). record { 0 = n })
-    (same-number (s .a) (s .u) (s .v) (x .0) (y .0) (g .u-odd) lx ly (ap (λ (k : Cell). k .0) h))
+    (same-number (map .a) (map .u) (map .v) (x .0) (y .0) (g .u-odd) lx ly (ap (λ (k : Cell). k .0) h))

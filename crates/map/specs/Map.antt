@@ -1,49 +1,73 @@
 -- The document's "From address to bank".
-use Prim.Native.Nat.{ℕ, _+_, _-_, _*_, _^_, _%_, _/_, _<_}
+use Prim.Native.Nat.{ℕ, _+_, _-_, _*_, _^_, _%_, _/_, _≤_, _<_}
 use mathlib.Core.Path.{_≡_}
-use Rattle.setup.specs.declared.Setup.{Setup}
-use Rattle.setup.specs.Setup.{Ranges, wordsOf, banksOf}
+use Rattle.map.specs.declared.Map.{Map}
 use Rattle.map.specs.declared.Address.{Address}
 use Rattle.map.specs.declared.Cell.{Cell}
 
+-- N = 2^a words
+abbrev pub wordsOf : Map → ℕ
+wordsOf map = 2 ^ (map .a)
+
+-- B = 2^s banks
+abbrev pub banksOf : Map → ℕ
+banksOf map = 2 ^ (map .s)
+
 -- cell = (u·address + v) mod N
-unfoldable pub cellOf : Setup → Address → Cell
-cellOf s x = record { 0 = (s .u * x .0 + s .v) % wordsOf s }
+unfoldable pub cellOf : Map → Address → Cell
+cellOf map x = record { 0 = (map .u * x .0 + map .v) % wordsOf map }
 
 -- the low s bits of the cell number name the bank
-unfoldable pub bankOf : Setup → Cell → ℕ
-bankOf s x = x .0 % banksOf s
+unfoldable pub bankOf : Map → Cell → ℕ
+bankOf map x = x .0 % banksOf map
 
 -- the bank of an address
-abbrev pub bankAt : Setup → Address → ℕ
-bankAt s x = bankOf s (cellOf s x)
+abbrev pub bankAt : Map → Address → ℕ
+bankAt map x = bankOf map (cellOf map x)
 
 -- the remaining bits name the row inside it
-abbrev pub rowOf : Setup → Cell → ℕ
-rowOf s x = x .0 / banksOf s
+abbrev pub rowOf : Map → Cell → ℕ
+rowOf map x = x .0 / banksOf map
 
 -- the rows inside one bank
-abbrev pub rowsOf : Setup → ℕ
-rowsOf s = 2 ^ (s .a - s .s)
+abbrev pub rowsOf : Map → ℕ
+rowsOf map = 2 ^ (map .a - map .s)
 
 -- the split turned round: the cell of a row of a bank
-abbrev pub joinOf : Setup → ℕ → ℕ → Cell
-joinOf s bank row = record { 0 = row * banksOf s + bank }
+abbrev pub joinOf : Map → ℕ → ℕ → Cell
+joinOf map bank row = record { 0 = row * banksOf map + bank }
+
+------------------------------------------------------------------------
+-- What a checked setup knows of its map
+
+-- a from 1 to 20; s from 0 to 6, at most a
+pub record Sizes (map : Map) : Type 0 where
+  pub a-least : 1 ≤ map .a
+  pub a-most : map .a ≤ 20
+  pub s-most : map .s ≤ 6
+  pub s-within : map .s ≤ map .a
+
+-- u and v below N, u odd
+pub record Ranges (map : Map) : Type 0 where
+  pub sizes : Sizes map
+  pub u-below : map .u < wordsOf map
+  pub u-odd : map .u % 2 ≡ 1
+  pub v-below : map .v < wordsOf map
 
 ------------------------------------------------------------------------
 -- What is proved of them
 
 -- it is one to one because u is odd
 abbrev pub OneToOne : Type 0
-OneToOne = (s : Setup) (x y : Address) → Ranges s → x .0 < wordsOf s → y .0 < wordsOf s → cellOf s x ≡ cellOf s y → x ≡ y
+OneToOne = (map : Map) (x y : Address) → Ranges map → x .0 < wordsOf map → y .0 < wordsOf map → cellOf map x ≡ cellOf map y → x ≡ y
 
 -- every cell is one of the N lent words, and its bank is one of the B
 abbrev pub WithinMemory : Type 0
-WithinMemory = (s : Setup) (x : Address) → Ranges s → (cellOf s x .0 < wordsOf s) × (bankOf s (cellOf s x) < banksOf s)
+WithinMemory = (map : Map) (x : Address) → Ranges map → (cellOf map x .0 < wordsOf map) × (bankOf map (cellOf map x) < banksOf map)
 
 -- bank and row together name the cell, and the cell names both
 abbrev pub SplitJoins : Type 0
-SplitJoins = (s : Setup) (x : Cell) → joinOf s (bankOf s x) (rowOf s x) ≡ x
+SplitJoins = (map : Map) (x : Cell) → joinOf map (bankOf map x) (rowOf map x) ≡ x
 
 abbrev pub JoinSplits : Type 0
-JoinSplits = (s : Setup) (b r : ℕ) → b < banksOf s → (bankOf s (joinOf s b r) ≡ b) × (rowOf s (joinOf s b r) ≡ r)
+JoinSplits = (map : Map) (b r : ℕ) → b < banksOf map → (bankOf map (joinOf map b r) ≡ b) × (rowOf map (joinOf map b r) ≡ r)

@@ -7,7 +7,7 @@ use mathlib.Core.List.{List}
 use lib.Dec.{eqb}
 use borrow.Author.Tests.{ltb-true, eqb-true}
 use Rattle.choice.specs.Choice.{pick}
-use Rattle.setup.specs.Setup.{Ranges, wordsOf}
+use Rattle.setup.specs.Setup.{Ranges, mapOf, wordsOf}
 use Rattle.setup.specs.declared.Setup.{Setup}
 use Rattle.map.specs.declared.Address.{Address}
 use Rattle.map.proofs.Split.{within-memory}
@@ -32,11 +32,11 @@ use Rattle.model.proofs.Good.{good-rows, good-buffers, good-parts, with
 module _ (s : Setup) (r : Ranges s) (a : Address) where
   pub write-entry-ok : (w : ℕ) → entryOk (wordsOf s) (s .c) (writeOf s a w) ≡ true
   write-entry-ok w =
-      entry-ok (wordsOf s) (s .c) (writeOf s a w) (omega arith) (within-memory s a r .0) (λ e. absurd (omega arith))
+      entry-ok (wordsOf s) (s .c) (writeOf s a w) (omega arith) (within-memory (mapOf s) a (r .map) .0) (λ e. absurd (omega arith))
 
   pub read-entry-ok : (position : ℕ) → position < s .c → entryOk (wordsOf s) (s .c) (readOf s position a) ≡ true
   read-entry-ok position h =
-      entry-ok (wordsOf s) (s .c) (readOf s position a) (omega arith) (within-memory s a r .0) (λ e. h)
+      entry-ok (wordsOf s) (s .c) (readOf s position a) (omega arith) (within-memory (mapOf s) a (r .map) .0) (λ e. h)
 
 ------------------------------------------------------------------------
 -- Retirement

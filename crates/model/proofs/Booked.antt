@@ -10,7 +10,7 @@ use lib.ListN.{length, drop, length-map}
 use borrow.Author.Tests.{eq-eqb, ne-eqb, lt-ltb, le-ltb}
 use Rattle.answers.specs.Answers.{done, badAddress, dropped, stopping, stopped}
 use Rattle.choice.specs.Choice.{pick}
-use Rattle.setup.specs.Setup.{Ranges, banksOf, merging}
+use Rattle.setup.specs.Setup.{Ranges, mapOf, banksOf, merging}
 use Rattle.setup.specs.declared.Setup.{Setup}
 use Rattle.map.specs.Map.{cellOf}
 use Rattle.map.proofs.Split.{bank-below}
@@ -135,7 +135,7 @@ module _ (s : Setup) (l : Ledger) (y : theory.Ledger ℕ) (i : Agrees s l y) whe
       rw (a, agrees-waits s l y i (bankNumbered s c) h) (go (lt (waiting y (bankNumbered s c)) (s .k)) (lt? _ _))
     where
       h : bankNumbered s c < banksOf s
-      h = bank-below s (record { 0 = c })
+      h = bank-below (mapOf s) (record { 0 = c })
 
       go : (t : Bool) → Says (waiting y (bankNumbered s c) < s .k) t → eqb (waiting y (bankNumbered s c)) (s .k) ≡ not t
       go t (is p) = ne-eqb (waiting y (bankNumbered s c)) (s .k) (λ e. omega arith)
@@ -255,12 +255,12 @@ module _ (s : Setup) (stamp : ℕ) (d : Delivery) (d′ : operations.Delivery �
 
 -- a call of a good address on a ledger that goes
 pub booked-call : (s : Setup) → Ranges s → (mem : ℕ → ℕ) (op : Operation) (l : Ledger) (x : Line ℕ) → Booked s l x → Holds s (bookOf x) → l .halted ≡ false → addressOk s op ≡ true
-    → CallAgrees s (length (l .past) % 2 ^ 32) (entered s (λ a. mem (cellOf s a .0)) op l)
+    → CallAgrees s (length (l .past) % 2 ^ 32) (entered s (λ a. mem (cellOf (mapOf s) a .0)) op l)
     (replyL (merging s) (setup (configOf s)) (s .k) mem (shownOp s op) x)
     (cycleL (merging s) (setup (configOf s)) (s .k) (shownOp s op) x)
 booked-call s r mem op l (goes y) i k going ok =
-    rw (entered-passes s (λ a. mem (cellOf s a .0)) op l going ok)
-    (call-passing s (length (l .past) % 2 ^ 32) (due (λ a. mem (cellOf s a .0)) (drop (s .delta - 1) (l .past))) (owedL mem (drop (s .delta - 1) (y .past)))
+    rw (entered-passes s (λ a. mem (cellOf (mapOf s) a .0)) op l going ok)
+    (call-passing s (length (l .past) % 2 ^ 32) (due (λ a. mem (cellOf (mapOf s) a .0)) (drop (s .delta - 1) (l .past))) (owedL mem (drop (s .delta - 1) (y .past)))
     (rw (i .book .past, ← (map-drop (shownOp s) (s .delta - 1) (l .past)))
     (due-owed s r mem (drop (s .delta - 1) (l .past)) (within-drop s (s .delta - 1) (l .past) (i .book .within))))
     r op (ok-below s op ok) l y going (i .book) k)

@@ -8,7 +8,7 @@ use mathlib.Core.List.{List, [], _∷_, _++_, append-nil, append-assoc}
 use lib.ListN.{length, length-map}
 use Rattle.answers.specs.Answers.{done, badAddress, stopped}
 use Rattle.choice.specs.Choice.{pick}
-use Rattle.setup.specs.Setup.{Ranges, banksOf, merging}
+use Rattle.setup.specs.Setup.{Ranges, mapOf, banksOf, merging}
 use Rattle.setup.specs.declared.Setup.{Setup}
 use Rattle.map.specs.Map.{cellOf}
 use Rattle.map.specs.declared.Address.{Address}
@@ -31,7 +31,7 @@ use Rattle.theory.proofs.Exact.{at-most-K}
 
 -- the ideal SRAM starts with, at each address, the word of its cell
 abbrev pub startFrom : Setup → (ℕ → ℕ) → Address → ℕ
-startFrom s mem a = mem (cellOf s a .0)
+startFrom s mem a = mem (cellOf (mapOf s) a .0)
 
 abbrev pub ledgerFrom : Setup → (ℕ → ℕ) → List Operation → Ledger
 ledgerFrom s mem ops = booked s (startFrom s mem) ops freshLedger

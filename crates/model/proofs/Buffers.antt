@@ -8,7 +8,7 @@ use mathlib.Core.Bool.{Bool, true, false}
 use lib.Dec.{eqb}
 use lib.ListN.{length}
 use borrow.Author.Tests.{eq-eqb, ne-eqb, eqb-false}
-use Rattle.setup.specs.Setup.{wordsOf, banksOf}
+use Rattle.setup.specs.Setup.{mapOf, wordsOf, banksOf}
 use Rattle.setup.specs.declared.Setup.{Setup}
 use Rattle.map.specs.Map.{bankOf}
 use Rattle.map.proofs.Split.{bank-below}
@@ -201,19 +201,19 @@ module _ (s : Setup) (q : Buffers) (b : ℕ) (e : Entry) where
 -- An entry is placed where there is a place
 
 module _ (s : Setup) (e : Entry) (q : Buffers) where
-  pub placed-full : countOf (q .heads) (bankOf s (e .cell)) ≡ s .k → placed s e q ≡ (false, q)
+  pub placed-full : countOf (q .heads) (bankOf (mapOf s) (e .cell)) ≡ s .k → placed s e q ≡ (false, q)
   unfolding placed
-  placed-full h = rw (eq-eqb (countOf (q .heads) (bankOf s (e .cell))) (s .k) h)
+  placed-full h = rw (eq-eqb (countOf (q .heads) (bankOf (mapOf s) (e .cell))) (s .k) h)
 
-  pub placed-room : (countOf (q .heads) (bankOf s (e .cell)) ≡ s .k → ⊥) → placed s e q ≡ (true, placedAt s (bankOf s (e .cell)) e q)
+  pub placed-room : (countOf (q .heads) (bankOf (mapOf s) (e .cell)) ≡ s .k → ⊥) → placed s e q ≡ (true, placedAt s (bankOf (mapOf s) (e .cell)) e q)
   unfolding placed
-  placed-room h = rw (ne-eqb (countOf (q .heads) (bankOf s (e .cell))) (s .k) h)
+  placed-room h = rw (ne-eqb (countOf (q .heads) (bankOf (mapOf s) (e .cell))) (s .k) h)
 
   pub placed-good : GoodBuffers s q → entryOk (wordsOf s) (s .c) e ≡ true → GoodBuffers s (placed s e q .1)
   unfolding placed
   placed-good g ok =
-      let b : ℕ = bankOf s (e .cell) in
+      let b : ℕ = bankOf (mapOf s) (e .cell) in
       pick-either (λ (r : Bool × Buffers). GoodBuffers s (r .1)) (eqb (countOf (q .heads) b) (s .k))
       (λ t. g)
       (λ t. let n : countOf (q .heads) b ≡ s .k → ⊥ = eqb-false (countOf (q .heads) b) (s .k) t in
-      placed-at-good s q b e g (bank-below s (e .cell)) (omega (arith, count-most s q g b (bank-below s (e .cell)))) ok)
+      placed-at-good s q b e g (bank-below (mapOf s) (e .cell)) (omega (arith, count-most s q g b (bank-below (mapOf s) (e .cell)))) ok)

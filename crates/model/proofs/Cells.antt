@@ -7,7 +7,7 @@ use lib.Dec.{eqb}
 use lib.ListN.{take, drop}
 use borrow.Author.Tests.{ltb-true, eq-eqb, ne-eqb}
 use Rattle.choice.specs.Choice.{pick}
-use Rattle.setup.specs.Setup.{Ranges, wordsOf}
+use Rattle.setup.specs.Setup.{Ranges, mapOf, wordsOf}
 use Rattle.setup.specs.declared.Setup.{Setup}
 use Rattle.map.specs.Map.{cellOf}
 use Rattle.map.specs.declared.Address.{Address}
@@ -67,25 +67,25 @@ pick-cond t false x y e = rw e
 
 module _ (s : Setup) (r : Ranges s) where
   -- the map is one to one, so comparing addresses is comparing cells
-  pub same-cell : (x y : Address) → x .0 < wordsOf s → y .0 < wordsOf s → eqb (y .0) (x .0) ≡ same (cellOf s y .0) (cellOf s x .0)
-  same-cell x y lx ly = go (same (cellOf s y .0) (cellOf s x .0)) (same? (cellOf s y .0) (cellOf s x .0))
+  pub same-cell : (x y : Address) → x .0 < wordsOf s → y .0 < wordsOf s → eqb (y .0) (x .0) ≡ same (cellOf (mapOf s) y .0) (cellOf (mapOf s) x .0)
+  same-cell x y lx ly = go (same (cellOf (mapOf s) y .0) (cellOf (mapOf s) x .0)) (same? (cellOf (mapOf s) y .0) (cellOf (mapOf s) x .0))
     where
-      go : (t : Bool) → Says (cellOf s y .0 ≡ cellOf s x .0) t → eqb (y .0) (x .0) ≡ t
+      go : (t : Bool) → Says (cellOf (mapOf s) y .0 ≡ cellOf (mapOf s) x .0) t → eqb (y .0) (x .0) ≡ t
       go t (is e) =
-          let c : cellOf s y ≡ cellOf s x = ap (λ (n : ℕ). record { 0 = n }) e in
-          eq-eqb (y .0) (x .0) (ap (λ (a : Address). a .0) (one-to-one s y x r ly lx c))
-      go t (isnt f) = ne-eqb (y .0) (x .0) (λ e. f (ap (λ (n : ℕ). cellOf s (record { 0 = n }) .0) e))
+          let c : cellOf (mapOf s) y ≡ cellOf (mapOf s) x = ap (λ (n : ℕ). record { 0 = n }) e in
+          eq-eqb (y .0) (x .0) (ap (λ (a : Address). a .0) (one-to-one (mapOf s) y x (r .map) ly lx c))
+      go t (isnt f) = ne-eqb (y .0) (x .0) (λ e. f (ap (λ (n : ℕ). cellOf (mapOf s) (record { 0 = n }) .0) e))
 
   ----------------------------------------------------------------------
   -- Who wrote an address, and who touched it
 
   module _ (a : Address) (l : a .0 < wordsOf s) where
-    pub wrote-rewrites : (o : Operation) → Below s o → wrote a o ≡ rewrites (cellOf s a .0) (shownOp s o)
+    pub wrote-rewrites : (o : Operation) → Below s o → wrote a o ≡ rewrites (cellOf (mapOf s) a .0) (shownOp s o)
     wrote-rewrites Idle h = refl
     wrote-rewrites (Read x) h = refl
     wrote-rewrites (Write x w) h = same-cell a x l h
 
-    pub touched-touches : (o : Operation) → Below s o → touched a o ≡ touches (cellOf s a .0) (shownOp s o)
+    pub touched-touches : (o : Operation) → Below s o → touched a o ≡ touches (cellOf (mapOf s) a .0) (shownOp s o)
     touched-touches Idle h = refl
     touched-touches (Read x) h = same-cell a x l h
     touched-touches (Write x w) h = same-cell a x l h
@@ -97,30 +97,30 @@ module _ (s : Setup) (r : Ranges s) where
   some-among f f′ e (suc n) (o ∷ past) h = or-cond (f o) (some f (take n past)) ∙ rw (e o (h .0), some-among f f′ e n past (h .1))
 
   pub some-wrote : (a : Address) → a .0 < wordsOf s → (n : ℕ) (past : List Operation) → Within s past
-      → some (wrote a) (take n past) ≡ among (rewrites (cellOf s a .0)) n (map (shownOp s) past)
-  some-wrote a l = some-among (wrote a) (rewrites (cellOf s a .0)) (wrote-rewrites a l)
+      → some (wrote a) (take n past) ≡ among (rewrites (cellOf (mapOf s) a .0)) n (map (shownOp s) past)
+  some-wrote a l = some-among (wrote a) (rewrites (cellOf (mapOf s) a .0)) (wrote-rewrites a l)
 
   pub some-touched : (a : Address) → a .0 < wordsOf s → (n : ℕ) (past : List Operation) → Within s past
-      → some (touched a) (take n past) ≡ among (touches (cellOf s a .0)) n (map (shownOp s) past)
-  some-touched a l = some-among (touched a) (touches (cellOf s a .0)) (touched-touches a l)
+      → some (touched a) (take n past) ≡ among (touches (cellOf (mapOf s) a .0)) n (map (shownOp s) past)
+  some-touched a l = some-among (touched a) (touches (cellOf (mapOf s) a .0)) (touched-touches a l)
 
   ----------------------------------------------------------------------
   -- The ideal SRAM, which starts with, at each address, the word of its cell
 
   module _ (mem : ℕ → ℕ) where
-    written-upd : (o : Operation) → Below s o → (a : Address) → a .0 < wordsOf s → (v : ℕ) → written o a v ≡ upd (cellOf s a .0) (shownOp s o) v
+    written-upd : (o : Operation) → Below s o → (a : Address) → a .0 < wordsOf s → (v : ℕ) → written o a v ≡ upd (cellOf (mapOf s) a .0) (shownOp s o) v
     written-upd Idle h a l v = refl
     written-upd (Read x) h a l v = refl
-    written-upd (Write x w) h a l v = pick-cond (eqb (x .0) (a .0)) (same (cellOf s x .0) (cellOf s a .0)) w v (same-cell a x l h)
+    written-upd (Write x w) h a l v = pick-cond (eqb (x .0) (a .0)) (same (cellOf (mapOf s) x .0) (cellOf (mapOf s) a .0)) w v (same-cell a x l h)
 
     pub sram-cell : (past : List Operation) → Within s past → (a : Address) → a .0 < wordsOf s
-        → sram (λ x. mem (cellOf s x .0)) past a ≡ theory.sram mem (map (shownOp s) past) (cellOf s a .0)
+        → sram (λ x. mem (cellOf (mapOf s) x .0)) past a ≡ theory.sram mem (map (shownOp s) past) (cellOf (mapOf s) a .0)
     sram-cell [] h a l = refl
     sram-cell (o ∷ past) h a l =
-        rw (sram-cell past (h .1) a l) (written-upd o (h .0) a l (theory.sram mem (map (shownOp s) past) (cellOf s a .0)))
+        rw (sram-cell past (h .1) a l) (written-upd o (h .0) a l (theory.sram mem (map (shownOp s) past) (cellOf (mapOf s) a .0)))
 
     -- to the newest of a past
-    pub due-owed : (past : List Operation) → Within s past → shownDelivery (due (λ x. mem (cellOf s x .0)) past) ≡ owedL mem (map (shownOp s) past)
+    pub due-owed : (past : List Operation) → Within s past → shownDelivery (due (λ x. mem (cellOf (mapOf s) x .0)) past) ≡ owedL mem (map (shownOp s) past)
     due-owed [] h = refl
     due-owed (Idle ∷ past) h = refl
     due-owed (Write a w ∷ past) h = refl

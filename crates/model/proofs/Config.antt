@@ -2,7 +2,7 @@
 use Prim.Native.Nat.{ℕ, _-_, _*_, _≤_}
 use native.Mathlib.Nat.{mul-le-mul}
 use native.Mathlib.Omega.{arith}
-use Rattle.setup.specs.Setup.{Ranges, banksOf}
+use Rattle.setup.specs.Setup.{Ranges, mapOf, banksOf}
 use Rattle.setup.specs.declared.Setup.{Setup}
 use Rattle.map.specs.Map.{cellOf, bankOf}
 use Rattle.map.proofs.Split.{bank-below}
@@ -16,7 +16,7 @@ use Rattle.theory.proofs.Concrete.{Config, Legal}
 
 -- the bank of the cell with this number
 abbrev pub bankNumbered : Setup → ℕ → ℕ
-bankNumbered s c = bankOf s (record { 0 = c })
+bankNumbered s c = bankOf (mapOf s) (record { 0 = c })
 
 -- a table of C rows is one of suc rest
 abbrev pub configOf : Setup → Config
@@ -30,13 +30,13 @@ legal s r =
       fits = r .delta-least;
       delays = omega (arith, r .delta-least);
       long = omega (arith, r .c-least);
-      within = λ c. bank-below s (record { 0 = c });
+      within = λ c. bank-below (mapOf s) (record { 0 = c });
     }
 
 abbrev pub shownOp : Setup → Operation → Op ℕ
 shownOp s Idle = idle
-shownOp s (Read a) = read (cellOf s a .0)
-shownOp s (Write a w) = write (cellOf s a .0) w
+shownOp s (Read a) = read (cellOf (mapOf s) a .0)
+shownOp s (Write a w) = write (cellOf (mapOf s) a .0) w
 
 abbrev pub shownDelivery : Delivery → operations.Delivery ℕ
 shownDelivery None = nil

@@ -10,9 +10,9 @@ use lib.ListN.{length, take, drop}
 use borrow.Author.Tests.{eqb-true, eqb-false, ne-eqb}
 use Rattle.answers.specs.Answers.{dropped, stopping}
 use Rattle.choice.specs.Choice.{pick}
-use Rattle.setup.specs.Setup.{banksOf, merging}
+use Rattle.setup.specs.Setup.{mapOf, banksOf, merging}
 use Rattle.setup.specs.declared.Setup.{Setup}
-use Rattle.map.specs.Map.{cellOf, bankOf, bankAt}
+use Rattle.map.specs.Map.{cellOf, bankAt}
 use Rattle.map.proofs.Split.{bank-below}
 use Rattle.map.specs.declared.Address.{Address}
 use Rattle.port.specs.declared.Operation.{Operation}
@@ -60,9 +60,9 @@ abbrev pub Bounded : Setup → Ledger → Type 0
 Bounded s l = (b : ℕ) → b < banksOf s → waits l b ≤ s .k
 
 module _ (s : Setup) where
-  picked-housed : (t : Bool) (x : Address) → Housed s (pick t nowhere (at (bankAt s x)))
+  picked-housed : (t : Bool) (x : Address) → Housed s (pick t nowhere (at (bankAt (mapOf s) x)))
   picked-housed true x = tt
-  picked-housed false x = bank-below s (cellOf s x)
+  picked-housed false x = bank-below (mapOf s) (cellOf (mapOf s) x)
 
   retiring-housed : (since older : List Operation) → Housed s (retiring s since older)
   retiring-housed since [] = tt
@@ -119,17 +119,15 @@ alike-picked : {A : Type 0} (t u : Bool) (x y z : A) → t ≢ true → (t ≡ f
 alike-picked true u x y z f g h = absurd (f refl)
 alike-picked false u x y z f g h = rw (g refl) (h refl)
 
--- the depth is no part of the address map, whatever its rule
+-- the depth is no part of the address map
 module _ (s : Setup) (d : ℕ) where
   same-retiring : (since older : List Operation) → retiring (deepened s d) since older ≡ retiring s since older
-  unfolding cellOf bankOf
   same-retiring since [] = refl
   same-retiring since (Idle ∷ before) = refl
   same-retiring since (Read x ∷ before) = refl
   same-retiring since (Write x w ∷ before) = refl
 
   same-arrives : (op : Operation) (l : Ledger) → arrives (deepened s d) op l ≡ arrives s op l
-  unfolding cellOf bankOf
   same-arrives Idle l = refl
   same-arrives (Read x) l = refl
   same-arrives (Write x w) l = refl

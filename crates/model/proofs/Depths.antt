@@ -13,9 +13,9 @@ use mathlib.Core.Bool.{Bool, true, false}
 use mathlib.Core.List.{List, [], _∷_, _++_}
 use lib.ListN.{length, length-append}
 use Rattle.answers.specs.Answers.{done}
-use Rattle.setup.specs.Setup.{Ranges, wordsOf, merging}
+use Rattle.setup.specs.Setup.{Ranges, mapOf, wordsOf, merging}
 use Rattle.setup.specs.declared.Setup.{Setup}
-use Rattle.map.specs.Map.{cellOf, bankOf}
+use Rattle.map.specs.Map.{cellOf}
 use Rattle.map.specs.declared.Address.{Address}
 use Rattle.port.specs.declared.Operation.{Operation}
 use Rattle.port.specs.declared.Operation.the-variants.{Idle, Read, Write}
@@ -45,7 +45,6 @@ use Rattle.theory.proofs.Depths as depths
 module _ (s : Setup) (d : ℕ) (mem : ℕ → ℕ) where
   -- the same map, so the same starting words
   same-start : startFrom (deepened s d) mem ≡ startFrom s mem
-  unfolding cellOf
   same-start = refl
 
   module _ (r : Ranges s) where
@@ -115,7 +114,6 @@ module _ (s₁ s₂ : Setup) (h : Deeper s₁ s₂) where
 
 module _ (s : Setup) (d : ℕ) where
   same-op : (op : Operation) → shownOp (deepened s d) op ≡ shownOp s op
-  unfolding cellOf
   same-op Idle = refl
   same-op (Read x) = refl
   same-op (Write x w) = refl
@@ -126,14 +124,12 @@ module _ (s : Setup) (d : ℕ) where
 
   module _ (r₁ : Ranges s) (r₂ : Ranges (deepened s d)) (mem : ℕ → ℕ) (ops : List Operation) where
     takes : (op : Operation) → replyFrom s mem ops op .answer ≡ done → replyFrom (deepened s d) mem ops op .answer ≡ done
-    unfolding bankOf
     takes op q =
         let z = taken-from s r₁ mem ops op q in
         answer-from (deepened s d) r₂ mem ops op (same-ok s d op ∙ z .0)
         ∙ rw (same-op op, same-ops ops) (depths.deeper-takes (merging s) (setup (configOf s)) (s .k) d (shownOps s ops) (shownOp s op) (z .1))
 
     goes-on : ledgerFrom s mem ops .halted ≡ false → ledgerFrom (deepened s d) mem ops .halted ≡ false
-    unfolding bankOf
     goes-on h =
         line-going (deepened s d) r₂ mem ops
         (rw (same-ops ops) (depths.deeper-goes (merging s) (setup (configOf s)) (s .k) d (shownOps s ops) (going-line s r₁ mem ops h)))
@@ -166,7 +162,7 @@ word-shown (Word v) w e = let z : v ≡ w = cc e in ap Word z
 module _ (s : Setup) (r : Ranges s) (mem : ℕ → ℕ) (ops : List Operation) where
   -- the ideal SRAM after these, by cell
   sram-shown : (a : Address) → a .0 < wordsOf s
-      → sram (startFrom s mem) (ledgerFrom s mem ops .past) a ≡ theory.sram mem (pastOf (lineOf s (shownOps s ops))) (cellOf s a .0)
+      → sram (startFrom s mem) (ledgerFrom s mem ops .past) a ≡ theory.sram mem (pastOf (lineOf s (shownOps s ops))) (cellOf (mapOf s) a .0)
   sram-shown a below =
       let i = booked-from s r mem ops .book in
       rw (i .past) (sram-cell s r mem (ledgerFrom s mem ops .past) (i .within) a below)
@@ -191,7 +187,7 @@ module _ (s : Setup) (d : ℕ) (r₁ : Ranges s) (r₂ : Ranges (deepened s d)) 
   good : addressOk s (Read a) ≡ true
   good = taken-from s r₁ mem ops (Read a) taken .0
 
-  split : shownOps s all ≡ shownOps s ops ++ read (cellOf s a .0) ∷ shownOps s more
+  split : shownOps s all ≡ shownOps s ops ++ read (cellOf (mapOf s) a .0) ∷ shownOps s more
   split = shown-append s ops (Read a ∷ more) ∙ ap (λ (l : List (Op ℕ)). shownOps s ops ++ l) (rw good)
 
   -- as many operations of good addresses after the read as make a delay, with its own
@@ -199,7 +195,7 @@ module _ (s : Setup) (d : ℕ) (r₁ : Ranges s) (r₂ : Ranges (deepened s d)) 
   delayed =
       let h = entered-reaches s (startFrom s mem) (Read a) (ledgerFrom s mem ops) (λ z. omega arith) (λ z. omega arith) .0 in
       let e : length (shownOps s all) ≡ length (shownOps s ops) + suc (length (shownOps s more))
-      = rw split (length-append (shownOps s ops) (read (cellOf s a .0) ∷ shownOps s more)) in
+      = rw split (length-append (shownOps s ops) (read (cellOf (mapOf s) a .0) ∷ shownOps s more)) in
       omega (arith, later, cycles-from s r₁ mem ops h, cycles-from s r₁ mem all going)
 
   owed : (givesL (setup (configOf s)) mem (lineOf s (shownOps s all)) ≡ word held)
@@ -207,11 +203,10 @@ module _ (s : Setup) (d : ℕ) (r₁ : Ranges s) (r₂ : Ranges (deepened s d)) 
   owed =
       let below : a .0 < wordsOf s = ok-below s (Read a) good in
       rw (sram-shown s r₁ mem ops a below, split)
-      (depths.deeper-words (merging s) (setup (configOf s)) (s .k) d mem (cellOf s a .0) (shownOps s ops) (taken-from s r₁ mem ops (Read a) taken .1)
+      (depths.deeper-words (merging s) (setup (configOf s)) (s .k) d mem (cellOf (mapOf s) a .0) (shownOps s ops) (taken-from s r₁ mem ops (Read a) taken .1)
       (none-dropped s r₁ mem a below ops kept) (shownOps s more) delayed (rw split at (going-line s r₁ mem all going)))
 
   words : (op : Operation) → addressOk s op ≡ true → (replyFrom s mem all op .delivery ≡ Word held) × (replyFrom (deepened s d) mem all op .delivery ≡ Word held)
-  unfolding bankOf
   words op e = (
     word-leaves s r₁ mem all op held going e (owed .0),
     word-leaves (deepened s d) r₂ mem all op held (goes-on s d r₁ r₂ mem all going) (same-ok s d op ∙ e) (rw (same-ops s d all) (owed .1)),

@@ -5,7 +5,7 @@ use mathlib.Core.Bool.{Bool, true, false, cond, _&&_}
 use mathlib.Core.List.{List, [], _∷_, map}
 use lib.ListN.{getD, take, drop}
 use Rattle.choice.specs.Choice.{pick}
-use Rattle.setup.specs.Setup.{Ranges, wordsOf, merging}
+use Rattle.setup.specs.Setup.{Ranges, mapOf, wordsOf, merging}
 use Rattle.setup.specs.declared.Setup.{Setup}
 use Rattle.map.specs.Map.{cellOf, bankAt}
 use Rattle.map.specs.declared.Address.{Address}
@@ -29,7 +29,7 @@ Asks s (at b) (for c) = b ≡ bankNumbered s c
 
 module _ (s : Setup) where
   -- the same test decides both
-  asks-picked : (t u : Bool) (a : Address) → t ≡ u → Asks s (pick t nowhere (at (bankAt s a))) (cond u no (for (cellOf s a .0)))
+  asks-picked : (t u : Bool) (a : Address) → t ≡ u → Asks s (pick t nowhere (at (bankAt (mapOf s) a))) (cond u no (for (cellOf (mapOf s) a .0)))
   asks-picked t true a e = rw e tt
   asks-picked t false a e = rw e refl
 
@@ -37,14 +37,14 @@ module _ (s : Setup) where
   -- Retirement
 
   module _ (since : List Operation) (p : List (Op ℕ))
-      (newer : (a : Address) → a .0 < wordsOf s → some (wrote a) since ≡ among (rewrites (cellOf s a .0)) (s .c - 1) p) where
+      (newer : (a : Address) → a .0 < wordsOf s → some (wrote a) since ≡ among (rewrites (cellOf (mapOf s) a .0)) (s .c - 1) p) where
     retiring-leaves : (n : ℕ) (past : List Operation) → Within s past
         → Asks s (retiring s since (drop n past)) (leaves (setup (configOf s)) p (getD (map (shownOp s) past) n idle))
     retiring-leaves zero [] h = tt
     retiring-leaves zero (Idle ∷ past) h = tt
     retiring-leaves zero (Read a ∷ past) h = tt
     retiring-leaves zero (Write a w ∷ past) h =
-        asks-picked (some (wrote a) since) (among (rewrites (cellOf s a .0)) (s .c - 1) p) a (newer a (h .0))
+        asks-picked (some (wrote a) since) (among (rewrites (cellOf (mapOf s) a .0)) (s .c - 1) p) a (newer a (h .0))
     retiring-leaves (suc n) [] h = tt
     retiring-leaves (suc n) (o ∷ past) h = retiring-leaves n past (h .1)
 
@@ -66,17 +66,17 @@ module _ (s : Setup) where
     arrives-asking (Read a) k l e = go (merging s)
       where
         go : (mode : Bool)
-            → Asks s (pick (mode && some (touched a) (take (s .c - 1) (l .past))) nowhere (at (bankAt s a)))
+            → Asks s (pick (mode && some (touched a) (take (s .c - 1) (l .past))) nowhere (at (bankAt (mapOf s) a)))
             (asking mode (setup (configOf s)) (map (shownOp s) past) (shownOp s (Read a)))
         go true =
             asks-picked (some (touched a) (take (s .c - 1) (l .past)))
-            (among (touches (cellOf s a .0)) (s .c - 1) (map (shownOp s) past)) a
+            (among (touches (cellOf (mapOf s) a .0)) (s .c - 1) (map (shownOp s) past)) a
             (rw e (some-touched s r a k (s .c - 1) past h))
         go false = refl
     arrives-asking (Write a w) k l e = go (merging s)
       where
         go : (mode : Bool)
-            → Asks s (pick mode nowhere (at (bankAt s a)))
+            → Asks s (pick mode nowhere (at (bankAt (mapOf s) a)))
             (asking mode (setup (configOf s)) (map (shownOp s) past) (shownOp s (Write a w)))
         go true = tt
         go false = refl

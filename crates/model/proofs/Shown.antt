@@ -6,6 +6,7 @@ use lib.Dec.{eqb}
 use lib.ListN.{getD}
 use Rattle.choice.specs.Choice.{pick}
 use Rattle.setup.specs.declared.Setup.{Setup}
+use Rattle.setup.specs.Setup.{mapOf}
 use Rattle.map.specs.Map.{cellOf}
 use Rattle.model.specs.declared.State.{State}
 use Rattle.model.specs.declared.Row.{Row}
@@ -28,7 +29,7 @@ rowShown (suc (suc zero)) c w l = got c w
 rowShown (suc (suc (suc k))) c w l = wait c l
 
 abbrev pub shownRow : Setup → Row → machine.Row ℕ
-shownRow s r = rowShown (r .kind) (cellOf s (r .address) .0) (r .word) (r .link)
+shownRow s r = rowShown (r .kind) (cellOf (mapOf s) (r .address) .0) (r .word) (r .link)
 
 abbrev pub shownEntry : Entry → machine.Entry ℕ
 shownEntry e = pick (eqb (e .kind) writeEntry) (wr (e .cell .0) (e .word)) (rd (e .cell .0) (e .row))

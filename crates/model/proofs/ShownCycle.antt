@@ -9,7 +9,7 @@ use lib.Dec.{eqb}
 use lib.ListN.{getD}
 use borrow.Author.Tests.{ltb-true}
 use Rattle.choice.specs.Choice.{pick}
-use Rattle.setup.specs.Setup.{merging, wordsOf, banksOf}
+use Rattle.setup.specs.Setup.{merging, mapOf, wordsOf, banksOf}
 use Rattle.setup.specs.declared.Setup.{Setup}
 use Rattle.map.specs.Map.{cellOf, bankOf}
 use Rattle.map.proofs.Split.{bank-below}
@@ -61,11 +61,11 @@ delivery-shown s t x g h =
 
 module _ (s : Setup) (t : State) (x : Lent) (g : Good s x) (e : Entry) where
   -- where fewer than K wait, it goes behind the last
-  push-shown : (countOf (x .buffers .heads) (bankOf s (e .cell)) ≡ s .k → ⊥)
-      → pushC (bankOf s (e .cell)) (shownEntry e) (shown s t x) ≡ shown s t (withBuffers (placedAt s (bankOf s (e .cell)) e (x .buffers)) x)
+  push-shown : (countOf (x .buffers .heads) (bankOf (mapOf s) (e .cell)) ≡ s .k → ⊥)
+      → pushC (bankOf (mapOf s) (e .cell)) (shownEntry e) (shown s t x) ≡ shown s t (withBuffers (placedAt s (bankOf (mapOf s) (e .cell)) e (x .buffers)) x)
   push-shown n =
-      let b : ℕ = bankOf s (e .cell) in
-      let l : b < banksOf s = bank-below s (e .cell) in
+      let b : ℕ = bankOf (mapOf s) (e .cell) in
+      let l : b < banksOf s = bank-below (mapOf s) (e .cell) in
       same-machine
       (placed-shown s (x .buffers) (good-buffers s x g) b l (omega (arith, count-most s (x .buffers) (good-buffers s x g) b l)) e)
       (λ a. refl)
@@ -73,10 +73,10 @@ module _ (s : Setup) (t : State) (x : Lent) (g : Good s x) (e : Entry) where
       refl
       refl
 
-  room-free : (countOf (x .buffers .heads) (bankOf s (e .cell)) ≡ s .k → ⊥) → roomC (s .k) (bankOf s (e .cell)) (shown s t x) ≡ true
+  room-free : (countOf (x .buffers .heads) (bankOf (mapOf s) (e .cell)) ≡ s .k → ⊥) → roomC (s .k) (bankOf (mapOf s) (e .cell)) (shown s t x) ≡ true
   room-free n =
-      let b : ℕ = bankOf s (e .cell) in
-      room-shown s (x .buffers) b (omega (arith, count-most s (x .buffers) (good-buffers s x g) b (bank-below s (e .cell))))
+      let b : ℕ = bankOf (mapOf s) (e .cell) in
+      room-shown s (x .buffers) b (omega (arith, count-most s (x .buffers) (good-buffers s x g) b (bank-below (mapOf s) (e .cell))))
 
 ------------------------------------------------------------------------
 -- Retirement
@@ -88,10 +88,10 @@ shownKept s t x (false, q) = full
 
 module _ (s : Setup) (t : State) (x : Lent) (g : Good s x) where
   shed-shown : (e : Entry)
-      → shedC false (roomC (s .k) (bankOf s (e .cell)) (shown s t x)) (bankOf s (e .cell)) (shownEntry e) (shown s t x)
+      → shedC false (roomC (s .k) (bankOf (mapOf s) (e .cell)) (shown s t x)) (bankOf (mapOf s) (e .cell)) (shownEntry e) (shown s t x)
       ≡ shownKept s t x (placed s e (x .buffers))
   shed-shown e =
-      let b : ℕ = bankOf s (e .cell) in
+      let b : ℕ = bankOf (mapOf s) (e .cell) in
       ⊎-elim
       (λ f. ap (λ (r : Bool). shedC false r b (shownEntry e) (shown s t x)) (full-shown s (x .buffers) b f)
       ∙ ap (shownKept s t x) (sym (placed-full s e (x .buffers) f)))
@@ -103,15 +103,15 @@ module _ (s : Setup) (t : State) (x : Lent) (g : Good s x) where
   module _ (h : t .position < s .c) where
     -- a write
     retire-write : (a : Address) (w link : ℕ) → a .0 < wordsOf s
-        → retireRowC (configOf s) (s .k) (put (cellOf s a .0) w) (shown s t x)
+        → retireRowC (configOf s) (s .k) (put (cellOf (mapOf s) a .0) w) (shown s t x)
         ≡ shownKept s t x (retiredWrite s (rowWith writeKind (a .0) w link) (newestWrite s (t .position) a (x .rows)) (x .buffers))
     retire-write a w link l =
-        ap (λ (b : Bool). shedC b (roomC (s .k) (bankOf s (cellOf s a)) (shown s t x)) (bankOf s (cellOf s a)) (wr (cellOf s a .0) w) (shown s t x))
+        ap (λ (b : Bool). shedC b (roomC (s .k) (bankOf (mapOf s) (cellOf (mapOf s) a)) (shown s t x)) (bankOf (mapOf s) (cellOf (mapOf s) a)) (wr (cellOf (mapOf s) a .0) w) (shown s t x))
         (newer-shown s (g .ranges) a l (x .rows) (good-rows s x g) (s .c - 1) (t .position) h)
         ∙ go (newestWrite s (t .position) a (x .rows))
       where
         go : (f : Found)
-            → shedC (isFound f) (roomC (s .k) (bankOf s (cellOf s a)) (shown s t x)) (bankOf s (cellOf s a)) (wr (cellOf s a .0) w) (shown s t x)
+            → shedC (isFound f) (roomC (s .k) (bankOf (mapOf s) (cellOf (mapOf s) a)) (shown s t x)) (bankOf (mapOf s) (cellOf (mapOf s) a)) (wr (cellOf (mapOf s) a .0) w) (shown s t x)
             ≡ shownKept s t x (retiredWrite s (rowWith writeKind (a .0) w link) f (x .buffers))
         go (At i) = refl
         go Nothing = shed-shown (writeOf s a w)
@@ -159,7 +159,7 @@ retired-unmoved s position rows q =
     go (At i) = λ e. refl
     go Nothing =
         let r : Row = rowAt (s .c) rows position in
-        pick-good (Unmoved q) (eqb (countOf (q .heads) (bankOf s (cellOf s (r .address)))) (s .k)) (λ e. refl) (λ e. absurd (false≢true (sym e)))
+        pick-good (Unmoved q) (eqb (countOf (q .heads) (bankOf (mapOf s) (cellOf (mapOf s) (r .address)))) (s .k)) (λ e. refl) (λ e. absurd (false≢true (sym e)))
 
 ------------------------------------------------------------------------
 -- Arrival
@@ -177,10 +177,10 @@ module _ (s : Setup) (t : State) (x : Lent) where
   land p = landC (configOf s) (s .k) p (shown s t x)
 
   abbrev echoed : Address → machine.Row ℕ → Plan ℕ
-  echoed a r = echo (bankOf s (cellOf s a)) (t .position) (cellOf s a .0) r
+  echoed a r = echo (bankOf (mapOf s) (cellOf (mapOf s) a)) (t .position) (cellOf (mapOf s) a .0) r
 
   abbrev merged : Address → machine.Found → Plan ℕ
-  merged a f = merge (bankOf s (cellOf s a)) (t .position) (cellOf s a .0) (λ p. getD (shownTab s (x .rows)) p none) f
+  merged a f = merge (bankOf (mapOf s) (cellOf (mapOf s) a)) (t .position) (cellOf (mapOf s) a .0) (λ p. getD (shownTab s (x .rows)) p none) f
 
 module _ (s : Setup) (t : State) (turn : t .turn < s .m) (h : t .position < s .c) where
   -- the row of this cycle is filled, and the next cycle begins
@@ -200,10 +200,10 @@ module _ (s : Setup) (t : State) (turn : t .turn < s .m) (h : t .position < s .c
     only-shown r = ap (landed true) (note-shown x (good-rows s x g) r)
 
     seat-shown : (e : Entry) (r : Row)
-        → land s t x (needs (bankOf s (e .cell)) (shownEntry e) (shownRow s r))
+        → land s t x (needs (bankOf (mapOf s) (e .cell)) (shownEntry e) (shownRow s r))
         ≡ shownLanded s t x (seated s (t .position) r (x .rows) (placed s e (x .buffers)))
     seat-shown e r =
-        let b : ℕ = bankOf s (e .cell) in
+        let b : ℕ = bankOf (mapOf s) (e .cell) in
         ⊎-elim
         (λ f. ap (λ (d : Bool). landed d (seatC d (configOf s) b (shownEntry e) (shownRow s r) (shown s t x))) (full-shown s (x .buffers) b f)
         ∙ ap (landed false) (note-shown x (good-rows s x g) emptyRow)
@@ -239,7 +239,7 @@ module _ (s : Setup) (t : State) (turn : t .turn < s .m) (h : t .position < s .c
     merge-shown a Nothing n = seat-shown (readOf s (t .position) a) (rowWith waitingKind (a .0) 0 (t .position))
 
     read-shown : (a : Address) → a .0 < wordsOf s → (m : Bool)
-        → arriveC m (configOf s) (s .k) (read (cellOf s a .0)) (shown s t x)
+        → arriveC m (configOf s) (s .k) (read (cellOf (mapOf s) a .0)) (shown s t x)
         ≡ shownLanded s t x
         (pick m (readMerged s (t .position) a (newestLive s (t .position) a (x .rows)) (x .rows) (x .buffers)) (readPlaced s (t .position) a (x .rows) (x .buffers)))
     read-shown a l true =
@@ -250,7 +250,7 @@ module _ (s : Setup) (t : State) (turn : t .turn < s .m) (h : t .position < s .c
     read-shown a l false = seat-shown (readOf s (t .position) a) (rowWith waitingKind (a .0) 0 (t .position))
 
     write-shown : (a : Address) (w : ℕ) (m : Bool)
-        → arriveC m (configOf s) (s .k) (write (cellOf s a .0) w) (shown s t x)
+        → arriveC m (configOf s) (s .k) (write (cellOf (mapOf s) a .0) w) (shown s t x)
         ≡ shownLanded s t x
         (pick m (noted s (t .position) (rowWith writeKind (a .0) w 0) (x .rows) (x .buffers)) (seated s (t .position) (rowWith writeKind (a .0) w 0) (x .rows) (placed s (writeOf s a w) (x .buffers))))
     write-shown a w true = only-shown (rowWith writeKind (a .0) w 0)

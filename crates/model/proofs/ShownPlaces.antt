@@ -6,7 +6,7 @@ use mathlib.Core.Logic.{_⊎_, inl, inr}
 use mathlib.Core.Bool.{Bool, cond}
 use lib.Dec.{eqb}
 use borrow.Author.Tests.{eq-eqb, ne-eqb}
-use Rattle.setup.specs.Setup.{Ranges, wordsOf}
+use Rattle.setup.specs.Setup.{Ranges, mapOf, wordsOf}
 use Rattle.setup.specs.declared.Setup.{Setup}
 use Rattle.map.specs.Map.{cellOf}
 use Rattle.map.specs.declared.Address.{Address}
@@ -50,11 +50,11 @@ ago-shown c d p h = go (lt p d) (lt? _ _)
 -- Cells: below N, two addresses are the same exactly when their cells are
 
 pub cells-same : (s : Setup) → Ranges s → (x y : Address) → x .0 < wordsOf s → y .0 < wordsOf s
-    → same (cellOf s x .0) (cellOf s y .0) ≡ eqb (x .0) (y .0)
-cells-same s r x y l m = go (same (cellOf s x .0) (cellOf s y .0)) (same? _ _)
+    → same (cellOf (mapOf s) x .0) (cellOf (mapOf s) y .0) ≡ eqb (x .0) (y .0)
+cells-same s r x y l m = go (same (cellOf (mapOf s) x .0) (cellOf (mapOf s) y .0)) (same? _ _)
   where
-    go : (b : Bool) → Says (cellOf s x .0 ≡ cellOf s y .0) b → b ≡ eqb (x .0) (y .0)
+    go : (b : Bool) → Says (cellOf (mapOf s) x .0 ≡ cellOf (mapOf s) y .0) b → b ≡ eqb (x .0) (y .0)
     go b (is e) =
-        let z : x ≡ y = one-to-one s x y r l m (ap (λ (n : ℕ). record { 0 = n }) e) in
+        let z : x ≡ y = one-to-one (mapOf s) x y (r .map) l m (ap (λ (n : ℕ). record { 0 = n }) e) in
         sym (eq-eqb (x .0) (y .0) (ap (λ (a : Address). a .0) z))
-    go b (isnt f) = sym (ne-eqb (x .0) (y .0) (λ e. f (ap (λ (n : ℕ). cellOf s (record { 0 = n }) .0) e)))
+    go b (isnt f) = sym (ne-eqb (x .0) (y .0) (λ e. f (ap (λ (n : ℕ). cellOf (mapOf s) (record { 0 = n }) .0) e)))

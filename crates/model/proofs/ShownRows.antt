@@ -8,7 +8,7 @@ use lib.Dec.{eqb}
 use lib.ListN.{getD, set}
 use lib.Seq.{ext-getD}
 use Rattle.choice.specs.Choice.{pick}
-use Rattle.setup.specs.Setup.{Ranges, wordsOf}
+use Rattle.setup.specs.Setup.{Ranges, mapOf, wordsOf}
 use Rattle.setup.specs.declared.Setup.{Setup}
 use Rattle.map.specs.Map.{cellOf}
 use Rattle.map.specs.declared.Address.{Address}
@@ -68,14 +68,14 @@ row-fill s p v i r =
 -- whole addresses are compared here, cells there
 module _ (s : Setup) (g : Ranges s) (a : Address) (h : a .0 < wordsOf s) (r : Row) (ok : rowOk (wordsOf s) (s .c) r ≡ true) where
   abbrev SameCell : Type 0
-  SameCell = same (cellOf s (r .address) .0) (cellOf s a .0) ≡ eqb (r .address .0) (a .0)
+  SameCell = same (cellOf (mapOf s) (r .address) .0) (cellOf (mapOf s) a .0) ≡ eqb (r .address .0) (a .0)
 
   same-cell : (r .kind ≡ emptyKind → ⊥) → SameCell
   same-cell n = cells-same s g (r .address) a (row-address (wordsOf s) (s .c) r ok n) h
 
-  pub row-writes : machine.writes (cellOf s a .0) (shownRow s r) ≡ writes a r
+  pub row-writes : machine.writes (cellOf (mapOf s) a .0) (shownRow s r) ≡ writes a r
   row-writes =
-      by-kind (λ (k : ℕ). ((k ≡ emptyKind → ⊥) → SameCell) → machine.writes (cellOf s a .0) (shownRow s (ofKind r k)) ≡ writes a (ofKind r k))
+      by-kind (λ (k : ℕ). ((k ≡ emptyKind → ⊥) → SameCell) → machine.writes (cellOf (mapOf s) a .0) (shownRow s (ofKind r k)) ≡ writes a (ofKind r k))
       (λ e. refl)
       (λ e. e (λ z. omega arith))
       (λ e. refl)
@@ -84,9 +84,9 @@ module _ (s : Setup) (g : Ranges s) (a : Address) (h : a .0 < wordsOf s) (r : Ro
       (row-kind (wordsOf s) (s .c) r ok)
       same-cell
 
-  pub row-names : machine.names (cellOf s a .0) (shownRow s r) ≡ isOf a r
+  pub row-names : machine.names (cellOf (mapOf s) a .0) (shownRow s r) ≡ isOf a r
   row-names =
-      by-kind (λ (k : ℕ). ((k ≡ emptyKind → ⊥) → SameCell) → machine.names (cellOf s a .0) (shownRow s (ofKind r k)) ≡ isOf a (ofKind r k))
+      by-kind (λ (k : ℕ). ((k ≡ emptyKind → ⊥) → SameCell) → machine.names (cellOf (mapOf s) a .0) (shownRow s (ofKind r k)) ≡ isOf a (ofKind r k))
       (λ e. refl)
       (λ e. e (λ z. omega arith))
       (λ e. e (λ z. omega arith))
@@ -160,18 +160,18 @@ module _ (s : Setup) (rows : List ℕ) (test : machine.Row ℕ → Bool) {R : Ty
 
 module _ (s : Setup) (g : Ranges s) (a : Address) (h : a .0 < wordsOf s) (rows : List ℕ) (ok : GoodRows s rows) where
   pub newer-shown : (n i : ℕ) → i < s .c
-      → newerBack (s .c - 1) (cellOf s a .0) (shownTab s rows) n i ≡ isFound (scan (writes a) (s .c) rows n i)
+      → newerBack (s .c - 1) (cellOf (mapOf s) a .0) (shownTab s rows) n i ≡ isFound (scan (writes a) (s .c) rows n i)
   newer-shown =
-      look-back s rows (machine.writes (cellOf s a .0)) isFound (newerBack (s .c - 1) (cellOf s a .0) (shownTab s rows))
+      look-back s rows (machine.writes (cellOf (mapOf s) a .0)) isFound (newerBack (s .c - 1) (cellOf (mapOf s) a .0) (shownTab s rows))
       (writes a)
       (λ i l. row-writes s g a h (rowAt (s .c) rows i) (ok .ok i l))
       (λ i. refl)
       (λ n i. refl)
 
   pub look-shown : (n i : ℕ) → i < s .c
-      → lookBack (s .c - 1) (cellOf s a .0) (shownTab s rows) n i ≡ shownFound (scan (isOf a) (s .c) rows n i)
+      → lookBack (s .c - 1) (cellOf (mapOf s) a .0) (shownTab s rows) n i ≡ shownFound (scan (isOf a) (s .c) rows n i)
   look-shown =
-      look-back s rows (machine.names (cellOf s a .0)) shownFound (lookBack (s .c - 1) (cellOf s a .0) (shownTab s rows))
+      look-back s rows (machine.names (cellOf (mapOf s) a .0)) shownFound (lookBack (s .c - 1) (cellOf (mapOf s) a .0) (shownTab s rows))
       (isOf a)
       (λ i l. row-names s g a h (rowAt (s .c) rows i) (ok .ok i l))
       (λ i. refl)

@@ -8,7 +8,7 @@ use mathlib.Core.List.{List, [], _∷_, _++_, append-nil, append-assoc}
 use lib.ListN.{length, drop}
 use Rattle.answers.specs.Answers.{done, dropped}
 use Rattle.choice.specs.Choice.{pick}
-use Rattle.setup.specs.Setup.{Ranges, wordsOf, merging}
+use Rattle.setup.specs.Setup.{Ranges, mapOf, wordsOf, merging}
 use Rattle.setup.specs.declared.Setup.{Setup}
 use Rattle.map.specs.Map.{cellOf}
 use Rattle.map.specs.declared.Address.{Address}
@@ -43,7 +43,7 @@ module _ (s : Setup) (before : List Operation) (op : Operation) where
 
 module _ (s : Setup) (r : Ranges s) (mem : ℕ → ℕ) (a : Address) (below : a .0 < wordsOf s) where
   abbrev cell : ℕ
-  cell = cellOf s a .0
+  cell = cellOf (mapOf s) a .0
 
   -- a write of w to the cell is not dropped after these
   abbrev Keeps : ℕ → List (Op ℕ) → Type 0

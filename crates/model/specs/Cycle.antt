@@ -6,7 +6,7 @@ use lib.Dec.{eqb}
 use lib.ListN.{getD, set}
 use Rattle.answers.specs.Answers.{done, dropped, stopping}
 use Rattle.choice.specs.Choice.{pick}
-use Rattle.setup.specs.Setup.{merging, banksOf}
+use Rattle.setup.specs.Setup.{merging, mapOf, banksOf}
 use Rattle.setup.specs.declared.Setup.{Setup}
 use Rattle.map.specs.Map.{cellOf, bankOf}
 use Rattle.map.specs.declared.Address.{Address}
@@ -119,15 +119,15 @@ placedAt s b e q =
 -- an entry needs a place in the buffer of its cell's bank: there is one unless the buffer holds K
 unfoldable pub placed : Setup → Entry → Buffers → Bool × Buffers
 placed s e q =
-    pick (eqb (countOf (q .heads) (bankOf s (e .cell))) (s .k)) (false, q)
-    (true, placedAt s (bankOf s (e .cell)) e q)
+    pick (eqb (countOf (q .heads) (bankOf (mapOf s) (e .cell))) (s .k)) (false, q)
+    (true, placedAt s (bankOf (mapOf s) (e .cell)) e q)
 
 -- write entries carry their own cell and word
 abbrev pub writeOf : Setup → Address → ℕ → Entry
-writeOf s a w = entryWith writeEntry 0 (cellOf s a .0) w
+writeOf s a w = entryWith writeEntry 0 (cellOf (mapOf s) a .0) w
 
 abbrev pub readOf : Setup → ℕ → Address → Entry
-readOf s position a = entryWith readEntry position (cellOf s a .0) 0
+readOf s position a = entryWith readEntry position (cellOf (mapOf s) a .0) 0
 
 ------------------------------------------------------------------------
 -- 3. Retirement. The row filled at t − C is given up.

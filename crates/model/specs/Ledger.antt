@@ -6,7 +6,7 @@ use lib.Dec.{eqb, ltb}
 use lib.ListN.{length, take, drop}
 use Rattle.answers.specs.Answers.{done, badAddress, dropped, stopping, stopped}
 use Rattle.choice.specs.Choice.{pick}
-use Rattle.setup.specs.Setup.{merging}
+use Rattle.setup.specs.Setup.{merging, mapOf}
 use Rattle.setup.specs.declared.Setup.{Setup}
 use Rattle.map.specs.Map.{bankAt}
 use Rattle.map.specs.declared.Address.{Address}
@@ -53,7 +53,7 @@ abbrev pub retiring : Setup → (since older : List Operation) → Need
 retiring s since [] = nowhere
 retiring s since (Idle ∷ before) = nowhere
 retiring s since (Read x ∷ before) = nowhere
-retiring s since (Write x w ∷ before) = pick (some (wrote x) since) nowhere (at (bankAt s x))
+retiring s since (Write x w ∷ before) = pick (some (wrote x) since) nowhere (at (bankAt (mapOf s) x))
 
 abbrev pub retires : Setup → Ledger → Need
 retires s l = pick (merging s) (retiring s (take (s .c - 1) (l .past)) (drop (s .c - 1) (l .past))) nowhere
@@ -61,8 +61,8 @@ retires s l = pick (merging s) (retiring s (take (s .c - 1) (l .past)) (drop (s 
 -- 4. Arrival: plain, a read or a write; merging, a read, if none of the last C − 1 cycles had an operation on its address
 abbrev pub arrives : Setup → Operation → Ledger → Need
 arrives s Idle l = nowhere
-arrives s (Read x) l = pick (merging s && some (touched x) (take (s .c - 1) (l .past))) nowhere (at (bankAt s x))
-arrives s (Write x w) l = pick (merging s) nowhere (at (bankAt s x))
+arrives s (Read x) l = pick (merging s && some (touched x) (take (s .c - 1) (l .past))) nowhere (at (bankAt (mapOf s) x))
+arrives s (Write x w) l = pick (merging s) nowhere (at (bankAt (mapOf s) x))
 
 -- the buffer there holds K
 abbrev pub full : Setup → Need → Ledger → Bool

@@ -8,7 +8,7 @@ use lib.Dec.{eqb}
 use lib.ListN.{length, getD, drop}
 use Rattle.answers.specs.Answers.{done, badAddress, dropped, stopping, stopped}
 use Rattle.choice.specs.Choice.{pick}
-use Rattle.setup.specs.Setup.{withDefaults, banksOf}
+use Rattle.setup.specs.Setup.{withDefaults, mapOf, banksOf}
 use Rattle.setup.specs.declared.Setup.{Setup}
 use Rattle.map.specs.Map.{cellOf}
 use Rattle.map.specs.declared.Address.{Address}
@@ -36,7 +36,7 @@ reached g w ops = afterAll g ops (fresh g w)
 
 -- the ideal SRAM starts with, at each address, the word lent at that address's cell
 abbrev pub startWord : Setup → Machine → Address → ℕ
-startWord g (t, x) a = getD (x .memory) (cellOf (withDefaults g) a .0) 0
+startWord g (t, x) a = getD (x .memory) (cellOf (mapOf (withDefaults g)) a .0) 0
 
 -- the call of this operation, then
 abbrev pub replyAt : Setup → Machine → List Operation → Operation → Reply

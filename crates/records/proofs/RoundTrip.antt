@@ -61,13 +61,13 @@ fields-read s r =
     let hk : s .k < base ^ 2 = omega (arith, r .sizes .k-most) in
     let hd : s .delta < base ^ 2 = omega (arith, given-most (s .delta) _ _ _ refl (r .delta-most)) in
     let hc : s .c < base ^ 2 = omega (arith, given-most (s .c) _ _ _ refl (r .c-most)) in
-    let ha : s .a ≤ 32 = omega (arith, r .sizes .a-most) in
+    let ha : s .a ≤ 32 = omega (arith, r .sizes .map .a-most) in
     rw (
       number-bytes 2 (s .k) bytes _ 4 hk refl,
       number-bytes 2 (s .delta) bytes _ 6 hd refl,
       number-bytes 2 (s .c) bytes _ 8 hc refl,
-      number-bytes 4 (s .u) bytes _ 12 (below-words (s .u) (s .a) (r .u-below) ha) refl,
-      number-bytes 4 (s .v) bytes _ 16 (below-words (s .v) (s .a) (r .v-below) ha) refl,
+      number-bytes 4 (s .u) bytes _ 12 (below-words (s .u) (s .a) (r .map .u-below) ha) refl,
+      number-bytes 4 (s .v) bytes _ 16 (below-words (s .v) (s .a) (r .map .v-below) ha) refl,
     )
 
 pub setup-read-as-written : SetupReadAsWritten

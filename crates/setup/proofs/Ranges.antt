@@ -10,7 +10,9 @@ use Rattle.setup.specs.declared.Setup.{Setup}
 use Rattle.setup.specs.declared.Checked.{Checked}
 use Rattle.setup.specs.declared.Checked.the-variants.{Good, Refused}
 use Rattle.choice.specs.Choice.{pick}
-use Rattle.setup.specs.Setup.{sizesOk, restOk, inRange, Sizes, Ranges, withDefaults, checkedOf, wordsOf, banksOf}
+use Rattle.map.specs.declared.Map.{Map}
+use Rattle.map.specs.Map as map
+use Rattle.setup.specs.Setup.{sizesOk, restOk, inRange, Sizes, Ranges, withDefaults, checkedOf, mapOf, wordsOf, banksOf}
 
 pub and-l : (x y : Bool) → x && y ≡ true → x ≡ true
 and-l true y h = refl
@@ -55,14 +57,18 @@ good-ranges s f r e h = let p = picked (inRange (withDefaults s)) (withDefaults 
 pub good-sizes : (s f : Setup) (r : Checked) → r ≡ checkedOf s → r ≡ Good f → Sizes f
 good-sizes s f r e h = good-ranges s f r e h .sizes
 
+-- What a call of the address map asks for, where m is what `Setup::map` answered.
+pub map-sizes : (s : Setup) (m : Map) → m ≡ mapOf s → Sizes s → map.Sizes m
+map-sizes s m e z = rw e (z .map)
+
 ------------------------------------------------------------------------
 -- How large the lent slices can be
 
 pub words-most : (s : Setup) → Sizes s → wordsOf s ≤ 1048576
-words-most s z = pow-mono {j = 20} (z .a-most)
+words-most s z = pow-mono {j = 20} (z .map .a-most)
 
 pub banks-most : (s : Setup) → Sizes s → banksOf s ≤ 64
-banks-most s z = pow-mono {j = 6} (z .s-most)
+banks-most s z = pow-mono {j = 6} (z .map .s-most)
 
 pub banks-least : (s : Setup) → 1 ≤ banksOf s
 banks-least s = pow-pos (s .s)

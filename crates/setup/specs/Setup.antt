@@ -1,10 +1,11 @@
 -- The document's "Numbers of a configuration". A setup's numbers are ℕ here, so nothing wraps and no default needs a bound.
-use Prim.Native.Nat.{ℕ, _*_, _^_, _%_, _≤_, _<_}
-use mathlib.Core.Path.{_≡_}
+use Prim.Native.Nat.{ℕ, _*_, _%_, _≤_}
 use mathlib.Core.Bool.{Bool, _&&_}
 use lib.Dec.{leb, ltb, eqb}
 use Rattle.answers.specs.Answers.{done, badSetup}
 use Rattle.choice.specs.Choice.{pick}
+use Rattle.map.specs.declared.Map.{Map}
+use Rattle.map.specs.Map as map
 use Rattle.setup.specs.declared.Setup.{Setup}
 use Rattle.setup.specs.declared.Checked.{Checked}
 use Rattle.setup.specs.declared.Checked.the-variants.{Good, Refused}
@@ -13,13 +14,17 @@ use Rattle.setup.specs.declared.Checked.the-variants.{Good, Refused}
 abbrev pub merging : Setup → Bool
 merging s = eqb (s .mode) 1
 
+-- the address map
+abbrev pub mapOf : Setup → Map
+mapOf s = record { a = s .a; s = s .s; u = s .u; v = s .v }
+
 -- N = 2^a words
 abbrev pub wordsOf : Setup → ℕ
-wordsOf s = 2 ^ (s .a)
+wordsOf s = map.wordsOf (mapOf s)
 
 -- B = 2^s banks
 abbrev pub banksOf : Setup → ℕ
-banksOf s = 2 ^ (s .s)
+banksOf s = map.banksOf (mapOf s)
 
 ------------------------------------------------------------------------
 -- Zero means a default for Δ and C only
@@ -93,10 +98,7 @@ answerOf Refused = badSetup
 
 pub record Sizes (s : Setup) : Type 0 where
   pub mode-most : s .mode ≤ 1
-  pub a-least : 1 ≤ s .a
-  pub a-most : s .a ≤ 20
-  pub s-most : s .s ≤ 6
-  pub s-within : s .s ≤ s .a
+  pub map : map.Sizes (mapOf s)
   pub m-least : 1 ≤ s .m
   pub m-most : s .m ≤ 64
   pub k-least : 1 ≤ s .k
@@ -108,6 +110,4 @@ pub record Ranges (s : Setup) : Type 0 where
   pub delta-most : s .delta ≤ 4096
   pub c-least : s .delta ≤ s .c
   pub c-most : s .c ≤ 4096
-  pub u-below : s .u < wordsOf s
-  pub u-odd : s .u % 2 ≡ 1
-  pub v-below : s .v < wordsOf s
+  pub map : map.Ranges (mapOf s)

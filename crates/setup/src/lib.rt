@@ -1,7 +1,7 @@
 // A setup's nine numbers, their ranges, and the test that every exported call makes first.
 ghost use mathlib.Core.Path.{_≡_};
-ghost use Prim.Native.Nat.{_^_, _<_};
-ghost use Rattle.setup.specs.Setup.{wordsOf, banksOf, leastDelta, orDefault, withDefaults, sizesOk, restOk, checkedOf, Sizes};
+ghost use Rattle.setup.specs.Setup.{mapOf, wordsOf, banksOf, leastDelta, orDefault, withDefaults, sizesOk, restOk, checkedOf, Sizes};
+use map::Map;
 
 #[repr(C)]
 pub struct Setup {
@@ -28,14 +28,6 @@ pub struct Setup {
 pub enum Checked {
     Good(Setup),
     Refused,
-}
-
-// 2^n.
-fn two_to(n: u8) -> u32
-    requires { ⌜ n < 32 ⌝ }
-    ensures { λ r. ⌜ r ≡ 2 ^ n ⌝ }
-{
-    1u32 << n
 }
 
 // x, or its default where x is 0.
@@ -81,12 +73,24 @@ impl Setup {
             & ((Self::MIN_K <= self.k) & (self.k <= Self::MAX_K))
     }
 
+    // The four numbers of the address map.
+    pub fn map(self) -> Map
+        ensures { λ r. ⌜ r ≡ mapOf self ⌝ }
+    {
+        Map {
+            a: self.a,
+            s: self.s,
+            u: self.u,
+            v: self.v,
+        }
+    }
+
     // N, the number of words.
     pub fn words(self) -> u32
         requires { ⌜ Sizes self ⌝ }
         ensures { λ r. ⌜ r ≡ wordsOf self ⌝ }
     {
-        two_to(self.a)
+        self.map().words()
     }
 
     // B, the number of banks.
@@ -94,7 +98,7 @@ impl Setup {
         requires { ⌜ Sizes self ⌝ }
         ensures { λ r. ⌜ r ≡ banksOf self ⌝ }
     {
-        two_to(self.s)
+        self.map().banks()
     }
 
     // K·m, the least delay and its default.

@@ -9,12 +9,15 @@ pub exported : Exported
 exported =
     record {
       checked = one-result _;
+      map = one-result _;
       words = one-result _;
       banks = one-result _;
+      map-words = one-result _;
+      map-banks = one-result _;
       cell = one-result _;
       bank = one-result _;
       row = one-result _;
-      joined = one-result _;
+      in-bank = one-result _;
       operation-from = one-result _;
       read-operation = one-result _;
       write-operation = one-result _;

@@ -5,7 +5,7 @@ use mathlib.Core.List.{List, [], _∷_, map}
 use Rattle.setup.specs.declared.Setup.{Setup}
 use Rattle.setup.specs.declared.Checked.{Checked}
 use Rattle.setup.specs.declared.Checked.the-variants.{Good, Refused}
-use Rattle.setup.specs.Setup.{checkedOf, answerOf}
+use Rattle.setup.specs.Setup.{checkedOf, answerOf, mapOf}
 use Rattle.map.specs.declared.Cell.{Cell}
 use Rattle.map.specs.Map.{cellOf, bankOf, rowOf}
 use Rattle.port.specs.declared.Operation.{Operation}
@@ -36,11 +36,11 @@ setupTold (Good s) = accepted (s .delta) (s .c)
 setupTold Refused = refused (answerOf Refused)
 
 abbrev pub cellTold : Setup → Cell → Told
-cellTold s x = cell-bank-row (x .0) (bankOf s x) (rowOf s x)
+cellTold s x = cell-bank-row (x .0) (bankOf (mapOf s) x) (rowOf (mapOf s) x)
 
 -- a run over memory of zeros: its answers and deliveries; the entries placed at bank 0; the memory word at cell 0 after each of these cycles
 abbrev pub toldOf : Asked → Told
-toldOf (place s x) = cellTold s (cellOf s (record { 0 = x }))
+toldOf (place s x) = cellTold s (cellOf (mapOf s) (record { 0 = x }))
 toldOf (check s) = setupTold (checkedOf s)
 toldOf (run s ops) = replied (heard s ops)
 toldOf (entries s ops) = placed (ledgerAt s (zeros s) ops .placed 0)

@@ -4,10 +4,12 @@ use mathlib.Core.Path.{_≡_}
 use mathlib.Core.List.{List}
 use Rattle.setup.specs.declared.Setup.{Setup}
 use Rattle.setup.specs.declared.Checked.{Checked}
-use Rattle.setup.specs.Setup.{checkedOf, wordsOf, banksOf}
+use Rattle.setup.specs.Setup.{checkedOf, mapOf, wordsOf, banksOf}
+use Rattle.map.specs.declared.Map.{Map}
 use Rattle.map.specs.declared.Address.{Address}
 use Rattle.map.specs.declared.Cell.{Cell}
 use Rattle.map.specs.Map.{cellOf, bankOf, rowOf, joinOf}
+use Rattle.map.specs.Map as map
 use Rattle.port.specs.declared.Operation.{Operation}
 use Rattle.records.specs.declared.OperationRecord.{OperationRecord}
 use Rattle.records.specs.declared.SetupRecord.{SetupRecord}
@@ -40,12 +42,15 @@ Unique {A} {B} f = (a : A) (r₁ r₂ : B) → Allows f a r₁ → Allows f a r�
 
 pub record Exported : Type 0 where
   pub checked : Unique {A = Setup} {B = Checked} checkedOf
+  pub map : Unique {A = Setup} {B = Map} mapOf
   pub words : Unique {A = Setup} {B = ℕ} wordsOf
   pub banks : Unique {A = Setup} {B = ℕ} banksOf
-  pub cell : Unique {A = Setup × Address} {B = Cell} (λ i. cellOf (i .0) (i .1))
-  pub bank : Unique {A = Setup × Cell} {B = ℕ} (λ i. bankOf (i .0) (i .1))
-  pub row : Unique {A = Setup × Cell} {B = ℕ} (λ i. rowOf (i .0) (i .1))
-  pub joined : Unique {A = Setup × ℕ × ℕ} {B = Cell} (λ i. joinOf (i .0) (i .1) (i .2))
+  pub map-words : Unique {A = Map} {B = ℕ} map.wordsOf
+  pub map-banks : Unique {A = Map} {B = ℕ} map.banksOf
+  pub cell : Unique {A = Map × Address} {B = Cell} (λ i. cellOf (i .0) (i .1))
+  pub bank : Unique {A = Map × Cell} {B = ℕ} (λ i. bankOf (i .0) (i .1))
+  pub row : Unique {A = Map × Cell} {B = ℕ} (λ i. rowOf (i .0) (i .1))
+  pub in-bank : Unique {A = Map × ℕ × ℕ} {B = Cell} (λ i. joinOf (i .0) (i .1) (i .2))
   pub operation-from : Unique {A = ℕ × ℕ × ℕ} {B = OperationRecord} (λ i. operationFrom (i .0) (i .1) (i .2))
   pub read-operation : Unique {A = List ℕ} {B = OperationRecord} operationOf
   pub write-operation : Unique {A = Operation × List ℕ} {B = ℕ × List ℕ} (λ i. operationWritten (i .0) (i .1))

@@ -1,17 +1,21 @@
 -- `buffers::place` meets its contract: each return knows whether the buffer holds K. Assumes nothing.
 use borrow.Author.Needs.{needs}
-use Rattle.buffers.proofs.Banks.{place-buffer, place-most, place-room, place-full, place-free}
+use Rattle.setup.proofs.Ranges.{map-sizes}
+use Rattle.buffers.proofs.Banks.{place-buffer, place-within, place-most, place-room, place-full, place-free}
 use Rattle.buffers.proofs.place.Statement.{statement}
 use Rattle.buffers.proofs.place.Tie as tie
 
+map-requires : tie.Need-map-requires
+map-requires c κs = search needs
+
 bank-requires : tie.Need-bank-requires
-bank-requires c κs = search needs
+bank-requires c κs = search (map-sizes, needs)
 
 cast-b : tie.Need-cast-b
 cast-b c = search needs
 
 count-at-requires : tie.Need-count-at-requires
-count-at-requires c κs = search needs
+count-at-requires c κs = search (place-within)
 
 full-requires : tie.Need-full-requires
 full-requires c κs = search (place-most)
@@ -38,6 +42,7 @@ pub place-spec : {M : Type 1} → statement M
 place-spec =
     tie.close
     (tie.spec
+    map-requires
     bank-requires
     cast-b
     count-at-requires

@@ -11,11 +11,11 @@ use Rattle.map.specs.Map.{cellOf}
 use Rattle.map.proofs.Address.cell.Statement.{statement}
 use Rattle.map.proofs.Address.cell.Tie as tie
 
-product-le : (c : tie.Start) → c .args .s .u * c .args .self .0 ≤ 4294967295 * 4294967295
+product-le : (c : tie.Start) → c .args .map .u * c .args .self .0 ≤ 4294967295 * 4294967295
 product-le c = mul-le-mul {n₂ = 4294967295} {m₂ = 4294967295} (search needs) (search needs)
 
 abbrev sum : tie.Start → ℕ
-sum c = c .args .s .u * c .args .self .0 + c .args .s .v
+sum c = c .args .map .u * c .args .self .0 + c .args .map .v
 
 -- n words, of which there are 2^a: the mask n - 1 leaves the remainder
 masked : (x n a : ℕ) → n ≡ 2 ^ a → bitAnd x (n - 1) ≡ x % n
@@ -29,7 +29,7 @@ words-requires : tie.Need-words-requires
 words-requires c κs = search needs
 
 sub-low : tie.Need-sub-low
-sub-low c = omega (arith, pow-pos (c .before .args .s .a))
+sub-low c = omega (arith, pow-pos (c .before .args .map .a))
 
 cast-low : tie.Need-cast-low
 cast-low c = search needs
@@ -56,7 +56,7 @@ returns : tie.Need-returns
 unfolding cellOf
 returns c =
     let w = c .before .before .before in
-    cc (masked (sum (w .before)) (w .words .result) (w .before .args .s .a) (w .words .ensures))
+    cc (masked (sum (w .before)) (w .words .result) (w .before .args .map .a) (w .words .ensures))
 
 pub cell-spec : {M : Type 1} → statement M
 cell-spec =

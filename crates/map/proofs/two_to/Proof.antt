@@ -1,12 +1,12 @@
--- `setup::two_to` meets its contract: nothing is shifted out. Assumes nothing.
+-- `map::two_to` meets its contract: nothing is shifted out. Assumes nothing.
 use mathlib.Core.Path.{_∙_}
 use native.Mathlib.Nat.{one-mul}
 use native.Mathlib.Omega.{arith}
 use borrow.Author.Needs.{needs}
 use lib.Dec.{lit<}
 use lib.Pow.{shl-exact}
-use Rattle.setup.proofs.two_to.Statement.{statement}
-use Rattle.setup.proofs.two_to.Tie as tie
+use Rattle.map.proofs.two_to.Statement.{statement}
+use Rattle.map.proofs.two_to.Tie as tie
 
 shl-result : tie.Need-shl-result
 shl-result c = search needs
