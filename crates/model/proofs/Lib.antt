@@ -21,8 +21,9 @@ pub mod Needs
 pub mod Booked
 pub mod Starts
 pub mod Steps
-pub mod Tracks
+pub mod Follows
 pub mod Signed
+pub mod Tracks
 pub mod BookedRuns
 pub mod WritesKept
 pub mod Deepened

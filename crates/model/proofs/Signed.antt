@@ -1,4 +1,4 @@
--- Demand 2's promises, each under its own name: from `Tracks`, over every list of offered operations. Assumes nothing.
+-- Demand 2's promises, each under its own name: from `Follows`, over every list of offered operations. Assumes nothing.
 use Prim.Native.Nat.{ℕ, suc, _+_, _-_, _%_, _^_, _<_}
 use mathlib.Core.Path.{_≡_, refl, sym, ap, subst, _∙_}
 use mathlib.Core.Logic.{_⊎_, inl, inr, _↔_}
@@ -45,7 +45,7 @@ use Rattle.model.proofs.Shown.{shown}
 use Rattle.model.proofs.Shows.{waiting-shown, on-shown}
 use Rattle.model.proofs.Booked.{booked-waits}
 use Rattle.model.proofs.BookedRuns.{booked-append}
-use Rattle.model.proofs.Tracks.{Tracks, tracks-fresh, tracks-reply, tracks-after}
+use Rattle.model.proofs.Follows.{Follows, follows-fresh, follows-reply, follows-after}
 
 ------------------------------------------------------------------------
 -- Lists of calls
@@ -57,39 +57,39 @@ module _ (g : Setup) (w₀ : Machine) (start : Starts g w₀) where
   abbrev words : Address → ℕ
   words = startWord g w₀
 
-  tracks-all : (ops : List Operation) (w : Machine) (l : Ledger) → Tracks g w₀ w l → Tracks g w₀ (afterAll g ops w) (booked s words ops l)
+  follows-all : (ops : List Operation) (w : Machine) (l : Ledger) → Follows g w₀ w l → Follows g w₀ (afterAll g ops w) (booked s words ops l)
   unfolding afterAll booked
-  tracks-all [] w l k = k
-  tracks-all (op ∷ ops) w l k = tracks-all ops (after g op w) (entered s words op l .1) (tracks-after g w₀ start w l k op)
+  follows-all [] w l k = k
+  follows-all (op ∷ ops) w l k = follows-all ops (after g op w) (entered s words op l .1) (follows-after g w₀ start w l k op)
 
-  pub tracks-run : (ops : List Operation) → Tracks g w₀ (reached g w₀ ops) (ledgerAt g w₀ ops)
-  tracks-run ops = tracks-all ops (fresh g w₀) freshLedger (tracks-fresh g w₀ start)
+  pub follows-run : (ops : List Operation) → Follows g w₀ (reached g w₀ ops) (ledgerAt g w₀ ops)
+  follows-run ops = follows-all ops (fresh g w₀) freshLedger (follows-fresh g w₀ start)
 
   -- each reply is the ledger's
   pub reply-run : (ops : List Operation) (op : Operation) → replyAt g w₀ ops op ≡ entered s words op (ledgerAt g w₀ ops) .0
-  reply-run ops op = tracks-reply g w₀ start (reached g w₀ ops) (ledgerAt g w₀ ops) (tracks-run ops) op
+  reply-run ops op = follows-reply g w₀ start (reached g w₀ ops) (ledgerAt g w₀ ops) (follows-run ops) op
 
-  replies-all : (ops : List Operation) (w : Machine) (l : Ledger) → Tracks g w₀ w l → replies g ops w ≡ promised s words ops l
+  replies-all : (ops : List Operation) (w : Machine) (l : Ledger) → Follows g w₀ w l → replies g ops w ≡ promised s words ops l
   unfolding replies promised
   replies-all [] w l k = refl
   replies-all (op ∷ ops) w l k =
-      rw (tracks-reply g w₀ start w l k op)
-      (ap (λ (r : List Reply). entered s words op l .0 ∷ r) (replies-all ops (after g op w) (entered s words op l .1) (tracks-after g w₀ start w l k op)))
+      rw (follows-reply g w₀ start w l k op)
+      (ap (λ (r : List Reply). entered s words op l .0 ∷ r) (replies-all ops (after g op w) (entered s words op l .1) (follows-after g w₀ start w l k op)))
 
   -- the history read off the answers is the ledger's past
-  history-all : (ops : List Operation) (w : Machine) (l : Ledger) → Tracks g w₀ w l → historyFrom g ops w (l .past) ≡ booked s words ops l .past
+  history-all : (ops : List Operation) (w : Machine) (l : Ledger) → Follows g w₀ w l → historyFrom g ops w (l .past) ≡ booked s words ops l .past
   unfolding historyFrom booked
   history-all [] w l k = refl
   history-all (op ∷ ops) w l k =
       let p : passing (replyOf g op w .answer) op (l .past) ≡ entered s words op l .1 .past
-      = ap (λ (r : Reply). passing (r .answer) op (l .past)) (tracks-reply g w₀ start w l k op) ∙ sym (entered-past s words op l) in
-      ap (historyFrom g ops (after g op w)) p ∙ history-all ops (after g op w) (entered s words op l .1) (tracks-after g w₀ start w l k op)
+      = ap (λ (r : Reply). passing (r .answer) op (l .past)) (follows-reply g w₀ start w l k op) ∙ sym (entered-past s words op l) in
+      ap (historyFrom g ops (after g op w)) p ∙ history-all ops (after g op w) (entered s words op l .1) (follows-after g w₀ start w l k op)
 
   pub history-run : (ops : List Operation) → history g w₀ ops ≡ ledgerAt g w₀ ops .past
-  history-run ops = history-all ops (fresh g w₀) freshLedger (tracks-fresh g w₀ start)
+  history-run ops = history-all ops (fresh g w₀) freshLedger (follows-fresh g w₀ start)
 
   replies-run : (ops : List Operation) → replies g ops (fresh g w₀) ≡ promised s words ops freshLedger
-  replies-run ops = replies-all ops (fresh g w₀) freshLedger (tracks-fresh g w₀ start)
+  replies-run ops = replies-all ops (fresh g w₀) freshLedger (follows-fresh g w₀ start)
 
 pub emulates : Emulates
 emulates g w ops h = replies-run g w h ops
@@ -347,8 +347,8 @@ tells-waiting g w ops b h l =
     m : Machine
     m = reached g w ops
 
-    k : Tracks g w m (ledgerAt g w ops)
-    k = tracks-run g w h ops
+    k : Follows g w m (ledgerAt g w ops)
+    k = follows-run g w h ops
 
     fits : Legal (configOf s) (s .k)
     fits = legal s (checked-ranges g s (starts-checked g w h))
@@ -382,7 +382,7 @@ module _ (g : Setup) (w : Machine) (h : Starts g w) where
   abbrev range : Ranges (withDefaults g)
   range = checked-ranges g (withDefaults g) (starts-checked g w h)
 
-  turn-of : (m : Machine) (l : Ledger) → Tracks g w m l → m .0 .stopped ≡ false
+  turn-of : (m : Machine) (l : Ledger) → Follows g w m l → m .0 .stopped ≡ false
       → (m .0 .turn ≡ length (l .past) % withDefaults g .m) × (m .0 .position ≡ length (l .past) % withDefaults g .c)
   turn-of m l k f = (p .0 ∙ ap (λ (n : ℕ). n % z .m) long, p .1 ∙ ap (λ (n : ℕ). n % suc (z .c - 1)) long ∙ ap (λ (n : ℕ). length (l .past) % n) whole)
     where
@@ -414,4 +414,4 @@ module _ (g : Setup) (w : Machine) (h : Starts g w) where
       whole = omega (arith, c-least-one z range)
 
 pub turns-apart : TurnsApart
-turns-apart g w ops h f = rw (history-run g w h ops) (turn-of g w h (reached g w ops) (ledgerAt g w ops) (tracks-run g w h ops) f)
+turns-apart g w ops h f = rw (history-run g w h ops) (turn-of g w h (reached g w ops) (ledgerAt g w ops) (follows-run g w h ops) f)
