@@ -56,7 +56,7 @@ returns : tie.Need-returns
 unfolding cellOf
 returns c =
     let w = c .before .before .before in
-    cc (masked (sum (w .before)) (w .words .result) (w .before .args .map .a) (w .words .ensures))
+    rw (masked (sum (w .before)) (w .words .result) (w .before .args .map .a) (w .words .ensures), w .words .ensures)
 
 pub cell-spec : {M : Type 1} → statement M
 cell-spec =
