@@ -2,9 +2,10 @@
 use Prim.Native.Nat.{ℕ, zero, suc}
 use native.Mathlib.Omega.{arith}
 use mathlib.Core.Bool.{Bool, true, false}
-use mathlib.Core.Path.{_≡_, refl, ap}
+use mathlib.Core.Path.{_≡_, refl, ap, _∙_}
 use lib.Dec.{eqb}
 use borrow.Author.Tests.{leb-true}
+use Rattle.setup.specs.Choice.{pick}
 use Rattle.port.specs.declared.Operation as port
 use Rattle.port.specs.declared.Operation.the-variants.{Idle, Read, Write}
 use Rattle.model.specs.declared.State as kept
@@ -12,7 +13,8 @@ use Rattle.model.specs.Calls as controller
 use Rattle.records.specs.declared.OperationRecord.{OperationRecord}
 use Rattle.records.specs.Records.{operationFrom}
 use Rattle.forms.specs.declared.State.{State}
-use Rattle.forms.specs.Forms.{markOk, markOut, stateIn, stateOut, cycledOut, refusedBy, operationIn, operationOut}
+use Rattle.forms.specs.declared.Asked.{Asked}
+use Rattle.forms.specs.Forms.{markOk, markOut, stateIn, stateOut, cycledOut, refusedBy, operationIn, askedIn, askedOf, operationOut}
 
 ------------------------------------------------------------------------
 -- A state that the controller returned
@@ -46,11 +48,18 @@ state-there t h =
 ------------------------------------------------------------------------
 -- An operation and a refusal
 
-pub operation-back : (op : port.Operation) → operationIn (operationOut op) ≡ OperationRecord.Good op
+operation-back : (op : port.Operation) → operationIn (operationOut op) ≡ OperationRecord.Good op
 unfolding operationFrom
 operation-back Idle = refl
 operation-back (Read a) = refl
 operation-back (Write a w) = refl
+
+pub asked-back : (t : kept.State) (op : port.Operation) → askedOf (stateOut t) (operationOut op) ≡ Asked.Cycle t op
+unfolding askedIn
+asked-back t op =
+    ap (λ (r : OperationRecord). askedIn r (stateOut t)) (operation-back op)
+    ∙ ap (λ (m : Bool). pick m (Asked.Cycle (stateIn (stateOut t)) op) Asked.Marked) (mark-good (t .stamp) (t .turn) (t .position) (t .stopped))
+    ∙ ap (λ (k : kept.State). Asked.Cycle k op) (state-back t)
 
 pub refused-out : (n : ℕ) (t : kept.State) → cycledOut (controller.refusedBy n t) ≡ refusedBy n (stateOut t)
 refused-out n t = refl

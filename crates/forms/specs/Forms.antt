@@ -27,6 +27,7 @@ use Rattle.forms.specs.declared.Reply.{Reply}
 use Rattle.forms.specs.declared.Cycled.{Cycled}
 use Rattle.forms.specs.declared.Told.{Told}
 use Rattle.forms.specs.declared.Recorded.{Recorded}
+use Rattle.forms.specs.declared.Asked.{Asked}
 
 ------------------------------------------------------------------------
 -- Setups
@@ -112,6 +113,14 @@ abbrev pub operationOut : port.Operation → Operation
 operationOut Idle = numbers idleKind 0 0
 operationOut (Read a) = numbers readKind (a .0) 0
 operationOut (Write a w) = numbers writeKind (a .0) w
+
+-- what C asks of a cycle: an operation that is none comes first, then a mark out of range
+unfoldable pub askedIn : OperationRecord → State → Asked
+askedIn OperationRecord.Bad t = Asked.Bad
+askedIn (OperationRecord.Good op) t = pick (markOk t) (Asked.Cycle (stateIn t) op) Asked.Marked
+
+abbrev pub askedOf : State → Operation → Asked
+askedOf t op = askedIn (operationIn op) t
 
 ------------------------------------------------------------------------
 -- What a record holds

@@ -1,6 +1,6 @@
 // What C passes and gets: structs of numbers in place of the enums, and the functions between them and the controller's own types.
 ghost use mathlib.Core.Path.{_≡_};
-ghost use Rattle.forms.specs.Forms.{noSetup, checkedOut, lentOut, noLengths, markOk, stateIn, markOut, stateOut, startedOut, deliveryOut, wordOut, replyOut, cycledOut, refusedBy, told, operationIn, operationOut, setupRead, operationRead};
+ghost use Rattle.forms.specs.Forms.{noSetup, checkedOut, lentOut, noLengths, markOk, stateIn, markOut, stateOut, startedOut, deliveryOut, wordOut, replyOut, cycledOut, refusedBy, told, operationIn, askedOf, operationOut, setupRead, operationRead};
 use setup::Setup;
 
 pub const DELIVERY_NONE: u32 = 0;
@@ -83,6 +83,13 @@ pub struct Told {
 pub struct Recorded {
     pub answer: u32,
     pub operation: Operation,
+}
+
+// What C asks of a cycle: an operation that is none, a mark out of range, or a cycle of the controller.
+pub enum Asked {
+    Bad,
+    Marked,
+    Cycle(model::State, port::Operation),
 }
 
 // A setup of zeros.
@@ -271,6 +278,19 @@ pub fn operation_in(op: Operation) -> records::OperationRecord
     ensures { λ r. ⌜ r ≡ operationIn op ⌝ }
 {
     records::operation_from(op.kind, op.address, op.word)
+}
+
+// What C asks of a cycle: the operation is looked at first, then the mark.
+pub fn cycle_asked(t: State, op: Operation) -> Asked
+    ensures { λ r. ⌜ r ≡ askedOf t op ⌝ }
+{
+    let records::OperationRecord::Good(o) = operation_in(op) else {
+        return Asked::Bad;
+    };
+    if mark_ok(t) {
+        return Asked::Cycle(state_in(t), o);
+    }
+    Asked::Marked
 }
 
 // The three numbers of an operation.

@@ -18,22 +18,20 @@ use Rattle.model.specs.Promises.{Passes}
 use Rattle.model.proofs.Signed.{refuses-whole}
 use Rattle.model.proofs.SignedRefusals.{starts-in-order}
 use Rattle.records.specs.declared.OperationRecord.{OperationRecord}
+use Rattle.forms.specs.declared.Asked.{Asked}
 use Rattle.forms.specs.declared.State.{State}
 use Rattle.forms.specs.declared.Cycled.{Cycled}
-use Rattle.forms.specs.Forms.{markOk, stateIn, stateOut, startedOut, operationIn, refusedBy, told}
-use Rattle.forms.proofs.Back.{mark-good, state-back, state-there, operation-back, refused-out}
-use Rattle.interface.specs.Interface.{startWith, cycledWith, badMark, offered, cycleIn, waitingOut}
+use Rattle.forms.specs.Forms.{markOk, stateIn, stateOut, startedOut, operationIn, askedIn, refusedBy, told}
+use Rattle.forms.proofs.Back.{mark-good, state-back, state-there, asked-back, refused-out}
+use Rattle.interface.specs.Interface.{startWith, cycledWith, badMark, cycleIn, waitingOut}
 use Rattle.interface.specs.Carried.{SameCycle, SameQuestion, StartsC, RefusesC}
 
 ------------------------------------------------------------------------
 -- The calls
 
 pub same-cycle : SameCycle
-unfolding cycleIn offered
-same-cycle s t op x =
-    ap (λ (r : OperationRecord). cycleIn r s (stateOut t) x) (operation-back op)
-    ∙ ap (λ (b : Bool). pick b (cycledWith (cycleOf s (stateIn (stateOut t)) op x)) (refusedBy (badMark (checkedOf s) x) (stateOut t), x)) (mark-good (t .stamp) (t .turn) (t .position) (t .stopped))
-    ∙ ap (λ (k : kept.State). cycledWith (cycleOf s k op x)) (state-back t)
+unfolding cycleIn
+same-cycle s t op x = ap (λ (a : Asked). cycleIn a s (stateOut t) x) (asked-back t op)
 
 pub same-question : SameQuestion
 unfolding waitingOut
@@ -72,18 +70,15 @@ with-whole t x w h (inr e) =
     ∙ ap (λ (r : Cycled). (r, x)) (refused-out (w .0 .reply .answer) (stateIn t))
     ∙ ap (λ (k : State). (refusedBy (w .0 .reply .answer) k, x)) (state-there t h))
 
-offered-whole : (s : Setup) (t : State) (op : port.Operation) (x : room.Lent) → Whole t x (offered s t op x)
-unfolding Whole offered
-offered-whole s t op x = go (markOk t) refl
-  where
-    go : (b : Bool) → markOk t ≡ b → Whole t x (pick b (cycledWith (cycleOf s (stateIn t) op x)) (refusedBy (badMark (checkedOf s) x) t, x))
-    go true h = with-whole t x (cycleOf s (stateIn t) op x) h (refuses-whole s (stateIn t) op x)
-    go false h = inr refl
-
+-- r is what the numbers of the operation mean, b whether the mark is in range
 pub refuses-c : RefusesC
-unfolding Whole cycleIn
+unfolding Whole cycleIn askedIn
 refuses-c s t op x = go (operationIn op)
   where
-    go : (r : OperationRecord) → Whole t x (cycleIn r s t x)
+    marked : (o : port.Operation) (b : Bool) → markOk t ≡ b → Whole t x (cycleIn (pick b (Asked.Cycle (stateIn t) o) Asked.Marked) s t x)
+    marked o true h = with-whole t x (cycleOf s (stateIn t) o x) h (refuses-whole s (stateIn t) o x)
+    marked o false h = inr refl
+
+    go : (r : OperationRecord) → Whole t x (cycleIn (askedIn r t) s t x)
     go OperationRecord.Bad = inr refl
-    go (OperationRecord.Good o) = offered-whole s t o x
+    go (OperationRecord.Good o) = marked o (markOk t) refl

@@ -6,7 +6,6 @@ use Rattle.setup.specs.Choice.{pick}
 use Rattle.setup.specs.Setup.{checkedOf}
 use Rattle.setup.specs.declared.Setup.{Setup}
 use Rattle.setup.specs.declared.Checked as setup
-use Rattle.port.specs.declared.Operation as port
 use Rattle.model.specs.declared.Cycled as passing
 use Rattle.model.specs.declared.Started as starting
 use Rattle.model.specs.Lent as room
@@ -14,13 +13,14 @@ use Rattle.model.specs.Range.{lengthsOf, lengthsOk}
 use Rattle.model.specs.Calls.{freshOf, cycleOf, waitingOf}
 use Rattle.records.specs.declared.OperationRecord.{OperationRecord}
 use Rattle.records.specs.Records.{operationWritten}
+use Rattle.forms.specs.declared.Asked.{Asked}
 use Rattle.forms.specs.declared.Lent.{Lent}
 use Rattle.forms.specs.declared.State.{State}
 use Rattle.forms.specs.declared.Started.{Started}
 use Rattle.forms.specs.declared.Operation.{Operation}
 use Rattle.forms.specs.declared.Cycled.{Cycled}
 use Rattle.forms.specs.declared.Told.{Told}
-use Rattle.forms.specs.Forms.{lentOut, noLengths, markOk, stateIn, startedOut, cycledOut, refusedBy, told, operationIn}
+use Rattle.forms.specs.Forms.{lentOut, noLengths, markOk, stateIn, startedOut, cycledOut, refusedBy, told, operationIn, askedOf}
 
 ------------------------------------------------------------------------
 -- How many numbers each lent room has
@@ -49,16 +49,13 @@ badMark (setup.Checked.Good s) x = pick (lengthsOk s x) badState badLength
 abbrev pub cycledWith : passing.Cycled × room.Lent → Cycled × room.Lent
 cycledWith r = (cycledOut (r .0), r .1)
 
-unfoldable pub offered : Setup → State → port.Operation → room.Lent → Cycled × room.Lent
-offered s t op x =
-    pick (markOk t) (cycledWith (cycleOf s (stateIn t) op x)) (refusedBy (badMark (checkedOf s) x) t, x)
-
-unfoldable pub cycleIn : OperationRecord → Setup → State → room.Lent → Cycled × room.Lent
-cycleIn OperationRecord.Bad s t x = (refusedBy badRecord t, x)
-cycleIn (OperationRecord.Good op) s t x = offered s t op x
+unfoldable pub cycleIn : Asked → Setup → State → room.Lent → Cycled × room.Lent
+cycleIn Asked.Bad s t x = (refusedBy badRecord t, x)
+cycleIn Asked.Marked s t x = (refusedBy (badMark (checkedOf s) x) t, x)
+cycleIn (Asked.Cycle k op) s t x = cycledWith (cycleOf s k op x)
 
 abbrev pub cycleOut : Setup → State → Operation → room.Lent → Cycled × room.Lent
-cycleOut s t op x = cycleIn (operationIn op) s t x
+cycleOut s t op x = cycleIn (askedOf t op) s t x
 
 ------------------------------------------------------------------------
 -- A question

@@ -4,7 +4,8 @@ ghost use Rattle.setup.specs.Setup.{checkedOf};
 ghost use Rattle.model.specs.Lent.{lent};
 ghost use Rattle.records.specs.Records.{setupOf, setupWritten, operationOf};
 ghost use Rattle.forms.specs.Forms.{checkedOut, refusedBy, setupRead, operationRead};
-ghost use Rattle.interface.specs.Interface.{lengthsIn, startOut, badMark, offered, cycleOut, waitingOut, operationWrittenOut};
+ghost use Rattle.interface.specs.Interface.{lengthsIn, startOut, badMark, cycleOut, waitingOut, operationWrittenOut};
+use forms::Asked;
 use forms::Checked;
 use forms::Cycled;
 use forms::Lent;
@@ -85,33 +86,6 @@ fn refuse_mark(
     forms::refuse(bad_mark(setup, memory, rows, entries, heads), t)
 }
 
-// A cycle that is offered an operation: the mark first, then the controller.
-fn offer(
-    setup: Setup,
-    state: State,
-    op: port::Operation,
-    memory: &mut [u32],
-    rows: &mut [u32],
-    entries: &mut [u32],
-    heads: &mut [u32],
-) -> Cycled
-    ensures { λ r. ⌜ (r, lent (now (memory .exit)) (now (rows .exit)) (now (entries .exit)) (now (heads .exit))) ≡ offered setup state op (lent (now (memory .entry)) (now (rows .entry)) (now (entries .entry)) (now (heads .entry))) ⌝ }
-{
-    if forms::mark_ok(state) {
-        let cycled = controller::cycle(
-            setup,
-            forms::state_in(state),
-            op,
-            memory,
-            rows,
-            entries,
-            heads,
-        );
-        return forms::cycled_out(cycled);
-    }
-    refuse_mark(setup, state, memory, rows, entries, heads)
-}
-
 // One cycle.
 #[no_mangle]
 pub extern "C" fn ridkostan_cycle(
@@ -125,10 +99,14 @@ pub extern "C" fn ridkostan_cycle(
 ) -> Cycled
     ensures { λ r. ⌜ (r, lent (now (memory .exit)) (now (rows .exit)) (now (entries .exit)) (now (heads .exit))) ≡ cycleOut setup state operation (lent (now (memory .entry)) (now (rows .entry)) (now (entries .entry)) (now (heads .entry))) ⌝ }
 {
-    let records::OperationRecord::Good(op) = forms::operation_in(operation) else {
-        return forms::refuse(answers::BAD_RECORD, state);
-    };
-    offer(setup, state, op, memory, rows, entries, heads)
+    match forms::cycle_asked(state, operation) {
+        Asked::Bad => forms::refuse(answers::BAD_RECORD, state),
+        Asked::Marked => refuse_mark(setup, state, memory, rows, entries, heads),
+        Asked::Cycle(t, op) => {
+            let cycled = controller::cycle(setup, t, op, memory, rows, entries, heads);
+            forms::cycled_out(cycled)
+        }
+    }
 }
 
 // How many entries wait at one bank.
