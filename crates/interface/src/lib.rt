@@ -46,7 +46,8 @@ pub extern "C" fn ridkostan_fresh_start(
     entries: &[u32],
     heads: &mut [u32],
 ) -> Started
-    ensures { λ r. ⌜ (r, lent (now (memory .entry)) (now (rows .exit)) (now (entries .entry)) (now (heads .exit))) ≡ startOut setup state (lent (now (memory .entry)) (now (rows .entry)) (now (entries .entry)) (now (heads .entry))) ⌝ }
+    ensures { λ r. ⌜ (r, lent (now (memory .entry)) (now (rows .exit)) (now (entries .entry)) (now (heads .exit)))
+        ≡ startOut setup state (lent (now (memory .entry)) (now (rows .entry)) (now (entries .entry)) (now (heads .entry))) ⌝ }
 {
     let started = controller::fresh_start(
         setup,
@@ -61,7 +62,8 @@ pub extern "C" fn ridkostan_fresh_start(
 
 // The answer to a mark out of range: 3, unless 1 or 2 comes first.
 fn bad_mark(setup: Setup, memory: &[u32], rows: &[u32], entries: &[u32], heads: &[u32]) -> u32
-    ensures { λ r. ⌜ r ≡ badMark (checkedOf setup) (lent (now (memory .entry)) (now (rows .entry)) (now (entries .entry)) (now (heads .entry))) ⌝ }
+    ensures { λ r. ⌜ r
+        ≡ badMark (checkedOf setup) (lent (now (memory .entry)) (now (rows .entry)) (now (entries .entry)) (now (heads .entry))) ⌝ }
 {
     let setup::Checked::Good(s) = Setup::checked(setup) else {
         return answers::BAD_SETUP;
@@ -81,7 +83,8 @@ fn refuse_mark(
     entries: &[u32],
     heads: &[u32],
 ) -> Cycled
-    ensures { λ r. ⌜ r ≡ refusedBy (badMark (checkedOf setup) (lent (now (memory .entry)) (now (rows .entry)) (now (entries .entry)) (now (heads .entry)))) t ⌝ }
+    ensures { λ r. ⌜ r
+        ≡ refusedBy (badMark (checkedOf setup) (lent (now (memory .entry)) (now (rows .entry)) (now (entries .entry)) (now (heads .entry)))) t ⌝ }
 {
     forms::refuse(bad_mark(setup, memory, rows, entries, heads), t)
 }
@@ -97,7 +100,8 @@ pub extern "C" fn ridkostan_cycle(
     entries: &mut [u32],
     heads: &mut [u32],
 ) -> Cycled
-    ensures { λ r. ⌜ (r, lent (now (memory .exit)) (now (rows .exit)) (now (entries .exit)) (now (heads .exit))) ≡ cycleOut setup state operation (lent (now (memory .entry)) (now (rows .entry)) (now (entries .entry)) (now (heads .entry))) ⌝ }
+    ensures { λ r. ⌜ (r, lent (now (memory .exit)) (now (rows .exit)) (now (entries .exit)) (now (heads .exit)))
+        ≡ cycleOut setup state operation (lent (now (memory .entry)) (now (rows .entry)) (now (entries .entry)) (now (heads .entry))) ⌝ }
 {
     match forms::cycle_asked(state, operation) {
         Asked::Bad => forms::refuse(answers::BAD_RECORD, state),
@@ -120,7 +124,8 @@ pub extern "C" fn ridkostan_waiting(
     entries: &[u32],
     heads: &[u32],
 ) -> Told
-    ensures { λ r. ⌜ r ≡ waitingOut setup state bank (lent (now (memory .entry)) (now (rows .entry)) (now (entries .entry)) (now (heads .entry))) ⌝ }
+    ensures { λ r. ⌜ r
+        ≡ waitingOut setup state bank (lent (now (memory .entry)) (now (rows .entry)) (now (entries .entry)) (now (heads .entry))) ⌝ }
 {
     if forms::mark_ok(state) {
         let told = controller::waiting(
