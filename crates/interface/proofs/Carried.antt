@@ -1,17 +1,13 @@
 -- The numbers lose nothing, and a refusal changes nothing. Assumes nothing.
-use Prim.Native.Nat.{ℕ, zero, suc}
-use native.Mathlib.Omega.{arith}
+use Prim.Native.Nat.{ℕ}
 use mathlib.Core.Bool.{Bool, true, false}
 use mathlib.Core.Logic.{_⊎_, inl, inr}
 use mathlib.Core.Path.{_≡_, refl, ap, _∙_}
-use lib.Dec.{eqb}
-use borrow.Author.Tests.{leb-true}
 use Rattle.answers.specs.Answers.{done, badSetup, badLength}
 use Rattle.choice.specs.Choice.{pick}
 use Rattle.setup.specs.declared.Setup.{Setup}
 use Rattle.setup.specs.Setup.{withDefaults, inRange, checkedOf}
 use Rattle.port.specs.declared.Operation as port
-use Rattle.port.specs.declared.Operation.the-variants.{Idle, Read, Write}
 use Rattle.model.specs.declared.State as kept
 use Rattle.model.specs.declared.Started as starting
 use Rattle.model.specs.declared.Cycled as passing
@@ -22,42 +18,20 @@ use Rattle.model.specs.Promises.{Passes}
 use Rattle.model.proofs.Signed.{refuses-whole}
 use Rattle.model.proofs.SignedRefusals.{starts-in-order}
 use Rattle.records.specs.declared.OperationRecord.{OperationRecord}
-use Rattle.records.specs.Records.{operationFrom}
-use Rattle.interface.specs.declared.State.{State}
-use Rattle.interface.specs.declared.Cycled.{Cycled}
-use Rattle.interface.specs.Interface.{markOk, markOut, stateIn, stateOut, startedOut, startWith, operationIn, operationOut, cycledWith, refusedBy, badMark, offered, cycleIn, told, waitingOut}
+use Rattle.forms.specs.declared.Asked.{Asked}
+use Rattle.forms.specs.declared.State.{State}
+use Rattle.forms.specs.declared.Cycled.{Cycled}
+use Rattle.forms.specs.Forms.{markOk, stateIn, stateOut, startedOut, operationIn, askedIn, refusedBy, told}
+use Rattle.forms.proofs.Back.{mark-good, state-back, state-there, asked-back, refused-out}
+use Rattle.interface.specs.Interface.{startWith, cycledWith, badMark, cycleIn, waitingOut}
 use Rattle.interface.specs.Carried.{SameCycle, SameQuestion, StartsC, RefusesC}
-
-------------------------------------------------------------------------
--- There and back
-
--- a state of stamp a, turn b and position c
-mark-good : (a b c : ℕ) (m : Bool) → markOk (record { stamp = a; turn = b; position = c; stopped = markOut m }) ≡ true
-mark-good a b c true = refl
-mark-good a b c false = refl
-
-mark-back : (b : Bool) → eqb (markOut b) 1 ≡ b
-mark-back true = refl
-mark-back false = refl
-
-state-back : (t : kept.State) → stateIn (stateOut t) ≡ t
-state-back t = ap (λ (b : Bool). record { stamp = t .stamp; turn = t .turn; position = t .position; stopped = b }) (mark-back (t .stopped))
-
-operation-back : (op : port.Operation) → operationIn (operationOut op) ≡ OperationRecord.Good op
-unfolding operationFrom
-operation-back Idle = refl
-operation-back (Read a) = refl
-operation-back (Write a w) = refl
 
 ------------------------------------------------------------------------
 -- The calls
 
 pub same-cycle : SameCycle
-unfolding cycleIn offered
-same-cycle s t op x =
-    ap (λ (r : OperationRecord). cycleIn r s (stateOut t) x) (operation-back op)
-    ∙ ap (λ (b : Bool). pick b (cycledWith (cycleOf s (stateIn (stateOut t)) op x)) (refusedBy (badMark (checkedOf s) x) (stateOut t), x)) (mark-good (t .stamp) (t .turn) (t .position) (t .stopped))
-    ∙ ap (λ (k : kept.State). cycledWith (cycleOf s k op x)) (state-back t)
+unfolding cycleIn
+same-cycle s t op x = ap (λ (a : Asked). cycleIn a s (stateOut t) x) (asked-back t op)
 
 pub same-question : SameQuestion
 unfolding waitingOut
@@ -82,14 +56,6 @@ pub starts-c : StartsC
 starts-c s t x =
     start-either s t x (inRange (withDefaults s)) (lengthsOk (withDefaults s) x) (freshOf s (stateIn t) x) (starts-in-order s (stateIn t) x)
 
-mark-there : (a b c n : ℕ) → markOk (record { stamp = a; turn = b; position = c; stopped = n }) ≡ true → markOut (eqb n 1) ≡ n
-mark-there a b c zero h = refl
-mark-there a b c (suc zero) h = refl
-mark-there a b c (suc (suc n)) h = let l = leb-true (suc (suc n)) _ h in absurd (omega arith)
-
-state-there : (t : State) → markOk t ≡ true → stateOut (stateIn t) ≡ t
-state-there t h = ap (λ (n : ℕ). record { stamp = t .stamp; turn = t .turn; position = t .position; stopped = n }) (mark-there (t .stamp) (t .turn) (t .position) (t .stopped) h)
-
 Whole : State → room.Lent → Cycled × room.Lent → Type 0
 Whole t x w = Passes (w .0 .reply .answer) ⊎ (w ≡ (refusedBy (w .0 .reply .answer) t, x))
 
@@ -101,20 +67,18 @@ with-whole t x w h (inl p) = inl p
 with-whole t x w h (inr e) =
     inr
     (ap cycledWith e
-    ∙ ap (λ (k : State). (record { state = k; reply = record { answer = w .0 .reply .answer; delivery = 0; word = 0; stamp = 0 } }, x)) (state-there t h))
+    ∙ ap (λ (r : Cycled). (r, x)) (refused-out (w .0 .reply .answer) (stateIn t))
+    ∙ ap (λ (k : State). (refusedBy (w .0 .reply .answer) k, x)) (state-there t h))
 
-offered-whole : (s : Setup) (t : State) (op : port.Operation) (x : room.Lent) → Whole t x (offered s t op x)
-unfolding Whole offered
-offered-whole s t op x = go (markOk t) refl
-  where
-    go : (b : Bool) → markOk t ≡ b → Whole t x (pick b (cycledWith (cycleOf s (stateIn t) op x)) (refusedBy (badMark (checkedOf s) x) t, x))
-    go true h = with-whole t x (cycleOf s (stateIn t) op x) h (refuses-whole s (stateIn t) op x)
-    go false h = inr refl
-
+-- r is what the numbers of the operation mean, b whether the mark is in range
 pub refuses-c : RefusesC
-unfolding Whole cycleIn
+unfolding Whole cycleIn askedIn
 refuses-c s t op x = go (operationIn op)
   where
-    go : (r : OperationRecord) → Whole t x (cycleIn r s t x)
+    marked : (o : port.Operation) (b : Bool) → markOk t ≡ b → Whole t x (cycleIn (pick b (Asked.Cycle (stateIn t) o) Asked.Marked) s t x)
+    marked o true h = with-whole t x (cycleOf s (stateIn t) o x) h (refuses-whole s (stateIn t) o x)
+    marked o false h = inr refl
+
+    go : (r : OperationRecord) → Whole t x (cycleIn (askedIn r t) s t x)
     go OperationRecord.Bad = inr refl
-    go (OperationRecord.Good o) = offered-whole s t o x
+    go (OperationRecord.Good o) = marked o (markOk t) refl

@@ -10,9 +10,10 @@ use Rattle.model.specs.declared.State as kept
 use Rattle.model.specs.Lent as room
 use Rattle.model.specs.Calls.{freshState, freshLent, cycleOf, waitingOf}
 use Rattle.model.specs.Promises.{Passes}
-use Rattle.interface.specs.declared.State.{State}
-use Rattle.interface.specs.declared.Operation.{Operation}
-use Rattle.interface.specs.Interface.{stateOut, operationOut, startOut, cycledWith, cycleOut, refusedBy, told, waitingOut}
+use Rattle.forms.specs.declared.State.{State}
+use Rattle.forms.specs.declared.Operation.{Operation}
+use Rattle.forms.specs.Forms.{stateOut, operationOut, refusedBy, told}
+use Rattle.interface.specs.Interface.{startOut, cycledWith, cycleOut, waitingOut}
 
 ------------------------------------------------------------------------
 -- C hands on the state that it got: each call then is the controller's, so demands 2 and 3 hold of what C sees

@@ -20,15 +20,16 @@ use Rattle.model.specs.declared.Started.{Started}
 use Rattle.model.specs.declared.Waiting.{Waiting}
 use Rattle.model.specs.Lent.{Lent}
 use Rattle.model.specs.Calls.{freshOf, cycleOf, waitingOf}
-use Rattle.interface.specs.declared.Checked as checked
-use Rattle.interface.specs.declared.Lent as lengths
-use Rattle.interface.specs.declared.State as marked
-use Rattle.interface.specs.declared.Started as starting
-use Rattle.interface.specs.declared.Operation as numbers
-use Rattle.interface.specs.declared.Cycled as cycling
-use Rattle.interface.specs.declared.Told.{Told}
-use Rattle.interface.specs.declared.Recorded.{Recorded}
-use Rattle.interface.specs.Interface.{checkedOut, lengthsIn, startOut, cycleOut, waitingOut, setupRead, operationRead, operationWrittenOut}
+use Rattle.forms.specs.declared.Checked as checked
+use Rattle.forms.specs.declared.Lent as lengths
+use Rattle.forms.specs.declared.State as marked
+use Rattle.forms.specs.declared.Started as starting
+use Rattle.forms.specs.declared.Operation as numbers
+use Rattle.forms.specs.declared.Cycled as cycling
+use Rattle.forms.specs.declared.Told.{Told}
+use Rattle.forms.specs.declared.Recorded.{Recorded}
+use Rattle.forms.specs.Forms.{checkedOut, setupRead, operationRead}
+use Rattle.interface.specs.Interface.{lengthsIn, startOut, cycleOut, waitingOut, operationWrittenOut}
 
 -- the shape of every exported contract: the result, with every lent slice at exit, is a definition of what came in
 abbrev pub Allows : {A B : Type 0} → (A → B) → A → B → Type 0

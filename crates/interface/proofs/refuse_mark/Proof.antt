@@ -10,7 +10,7 @@ refuse-requires : tie.Need-refuse-requires
 refuse-requires c κs = search needs
 
 returns : tie.Need-returns
-returns c = cc
+returns c = rw (← c .before .bad-mark .ensures) (c .refuse .ensures)
 
 pub refuse-mark-spec : {M : Type 1} → statement M
 refuse-mark-spec = tie.close (tie.spec bad-mark-requires refuse-requires returns)

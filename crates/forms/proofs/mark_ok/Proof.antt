@@ -1,0 +1,10 @@
+-- `mark_ok` meets its contract. Assumes nothing.
+use mathlib.Core.Path.{refl}
+use Rattle.forms.proofs.mark_ok.Statement.{statement}
+use Rattle.forms.proofs.mark_ok.Tie as tie
+
+returns : tie.Need-returns
+returns c = refl
+
+pub mark-ok-spec : {M : Type 1} → statement M
+mark-ok-spec = tie.close (tie.spec returns)
