@@ -1,13 +1,13 @@
--- `arrival::write_entry` meets its contract: the address map gives the cell. Assumes nothing.
+-- `plan::write_entry` meets its contract: the address map gives the cell. Assumes nothing.
 use borrow.Author.Needs.{needs}
-use Rattle.arrival.proofs.write_entry.Statement.{statement}
-use Rattle.arrival.proofs.write_entry.Tie as tie
+use Rattle.plan.proofs.write_entry.Statement.{statement}
+use Rattle.plan.proofs.write_entry.Tie as tie
 
 cell-requires : tie.Need-cell-requires
 cell-requires c κs = search needs
 
 returns : tie.Need-returns
-returns c = cc
+returns c = rw (c .cell .ensures)
 
 pub write-entry-spec : {M : Type 1} → statement M
 write-entry-spec = tie.close (tie.spec cell-requires returns)
