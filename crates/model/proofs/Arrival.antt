@@ -18,7 +18,10 @@ use Rattle.model.specs.declared.Found.{Found}
 use Rattle.model.specs.declared.Found.the-variants.{At, Nothing}
 use Rattle.model.specs.Lent.{Lent, Buffers, writeKind, readKind, waitingKind, rowWith, rowAt, emptyRow}
 use Rattle.model.specs.Range.{rowOk, entryOk, Good}
-use Rattle.model.specs.Cycle.{isOf, newestLive, newestWrite, placed, writeOf, readOf, retiredWrite, retired, Arrived, seated, readPlaced, joined, readMerged, arrived}
+use Rattle.model.specs.declared.Placing.{Placing}
+use Rattle.model.specs.declared.Placing.the-variants.{NoEntry, OneEntry}
+use Rattle.model.specs.declared.Plan.{Plan}
+use Rattle.model.specs.Cycle.{isOf, newestLive, newestWrite, placedIf, writeOf, readOf, givenUpWrite, retired, readPlan, mergedRow, mergedPlan, planned, Arrived, seated, arrived}
 use Rattle.model.specs.Calls.{addressOk}
 use Rattle.choice.proofs.Tests.{pick-good, pick-either}
 use Rattle.model.proofs.Range.{row-ok, row-link, entry-ok}
@@ -42,7 +45,7 @@ module _ (s : Setup) (r : Ranges s) (a : Address) where
 -- Retirement
 
 module _ (s : Setup) (r : Ranges s) (q : Buffers) (g : GoodBuffers s q) where
-  retired-write-good : (x : Row) (f : Found) → GoodBuffers s (retiredWrite s x f q .1)
+  retired-write-good : (x : Row) (f : Found) → GoodBuffers s (placedIf s (givenUpWrite s x f) q .1)
   retired-write-good x (At i) = g
   retired-write-good x Nothing =
       placed-good s (writeOf s (x .address) (x .word)) q g (write-entry-ok s r (x .address) (x .word))
@@ -51,8 +54,8 @@ module _ (s : Setup) (r : Ranges s) (q : Buffers) (g : GoodBuffers s q) where
   unfolding retired
   retired-buffers-good position rows =
       let x : Row = rowAt (s .c) rows position in
-      pick-good (λ (w : Bool × Buffers). GoodBuffers s (w .1)) (eqb (s .mode) 1)
-      (pick-good (λ (w : Bool × Buffers). GoodBuffers s (w .1)) (eqb (x .kind) writeKind)
+      pick-good (λ (p : Placing). GoodBuffers s (placedIf s p q .1)) (eqb (s .mode) 1)
+      (pick-good (λ (p : Placing). GoodBuffers s (placedIf s p q .1)) (eqb (x .kind) writeKind)
       (retired-write-good x (newestWrite s position (x .address) rows))
       g)
       g
@@ -87,8 +90,8 @@ module _ (n c a : ℕ) (h : a < n) where
   pub waiting-row-ok : (link : ℕ) → link < c → rowOk n c (rowWith waitingKind a 0 link) ≡ true
   waiting-row-ok link l = row-ok n c (rowWith waitingKind a 0 link) (omega arith) (λ e. h) (λ e. l)
 
-pub joined-ok : (n c : ℕ) (a : Address) (r : Row) → a .0 < n → rowOk n c r ≡ true → rowOk n c (joined a r) ≡ true
-joined-ok n c a r h ok =
+pub merged-row-ok : (n c : ℕ) (a : Address) (r : Row) → a .0 < n → rowOk n c r ≡ true → rowOk n c (mergedRow a r) ≡ true
+merged-row-ok n c a r h ok =
     pick-either (λ (x : Row). rowOk n c x ≡ true) (eqb (r .kind) waitingKind)
     (λ t. waiting-row-ok n c (a .0) h (r .link) (row-link n c r ok (eqb-true (r .kind) waitingKind t)))
     (λ t. read-row-ok n c (a .0) h (r .word))
@@ -96,11 +99,40 @@ joined-ok n c a r h ok =
 ------------------------------------------------------------------------
 -- Arrival
 
+-- the row of a plan, and the entry that it places, are in range
+abbrev PlacingOk : Setup → Placing → Type 0
+PlacingOk s NoEntry = Unit {0}
+PlacingOk s (OneEntry e) = entryOk (wordsOf s) (s .c) e ≡ true
+
+abbrev PlanOk : Setup → Plan → Type 0
+PlanOk s p = (rowOk (wordsOf s) (s .c) (p .row) ≡ true) × PlacingOk s (p .placing)
+
+module _ (s : Setup) (r : Ranges s) (position : ℕ) (h : position < s .c) (rows : List ℕ) (gr : GoodRows s rows) where
+  read-plan-ok : (a : Address) → a .0 < wordsOf s → PlanOk s (readPlan s position a)
+  read-plan-ok a l = (waiting-row-ok (wordsOf s) (s .c) (a .0) l position h, read-entry-ok s r a position h)
+
+  merged-plan-ok : (a : Address) → a .0 < wordsOf s → (f : Found) → ((i : ℕ) → f ≡ At i → i < s .c)
+      → PlanOk s (mergedPlan s position a f rows)
+  merged-plan-ok a l (At i) m = (merged-row-ok (wordsOf s) (s .c) a (rowAt (s .c) rows i) l (gr .ok i (m i refl)), tt)
+  merged-plan-ok a l Nothing m = read-plan-ok a l
+
+  planned-ok : (op : Operation) → addressOk s op ≡ true → PlanOk s (planned s position op rows)
+  planned-ok Idle t = (empty-row-ok (wordsOf s) (s .c), tt)
+  planned-ok (Read a) t =
+      let l : a .0 < wordsOf s = ltb-true (a .0) (wordsOf s) t in
+      pick-good (PlanOk s) (eqb (s .mode) 1)
+      (merged-plan-ok a l (newestLive s position a rows) (λ i e. scan-below (isOf a) (s .c) rows (s .c - 1) position h e))
+      (read-plan-ok a l)
+  planned-ok (Write a w) t = (
+    write-row-ok (wordsOf s) (s .c) (a .0) (ltb-true (a .0) (wordsOf s) t) w,
+    pick-good (PlacingOk s) (eqb (s .mode) 1) tt (write-entry-ok s r a w),
+  )
+
 -- what an arrival leaves is good
 abbrev pub Kept : Setup → Arrived → Type 0
 Kept s w = GoodRows s (w .1 .0) × GoodBuffers s (w .1 .1)
 
-module _ (s : Setup) (r : Ranges s) (position : ℕ) (h : position < s .c) (rows : List ℕ) (gr : GoodRows s rows) (q : Buffers) (gq : GoodBuffers s q) where
+module _ (s : Setup) (position : ℕ) (h : position < s .c) (rows : List ℕ) (gr : GoodRows s rows) (q : Buffers) (gq : GoodBuffers s q) where
   seated-good : (x : Row) (w : Bool × Buffers) → rowOk (wordsOf s) (s .c) x ≡ true → GoodBuffers s (w .1)
       → Kept s (seated s position x rows w)
   seated-good x w ok gw = (
@@ -109,40 +141,23 @@ module _ (s : Setup) (r : Ranges s) (position : ℕ) (h : position < s .c) (rows
     gw,
   )
 
-  read-placed-good : (a : Address) → a .0 < wordsOf s → Kept s (readPlaced s position a rows q)
-  read-placed-good a l =
-      seated-good (rowWith waitingKind (a .0) 0 position) (placed s (readOf s position a) q)
-      (waiting-row-ok (wordsOf s) (s .c) (a .0) l position h)
-      (placed-good s (readOf s position a) q gq (read-entry-ok s r a position h))
+  placed-if-good : (p : Placing) → PlacingOk s p → GoodBuffers s (placedIf s p q .1)
+  placed-if-good NoEntry ok = gq
+  placed-if-good (OneEntry e) ok = placed-good s e q gq ok
 
-  read-merged-good : (a : Address) → a .0 < wordsOf s → (f : Found) → ((i : ℕ) → f ≡ At i → i < s .c)
-      → Kept s (readMerged s position a f rows q)
-  read-merged-good a l (At i) m =
-      let ok = joined-ok (wordsOf s) (s .c) a (rowAt (s .c) rows i) l (gr .ok i (m i refl)) in
-      (put-row-good s rows gr position (joined a (rowAt (s .c) rows i)) h ok, gq)
-  read-merged-good a l Nothing m = read-placed-good a l
-
-  pub arrived-parts-good : (op : Operation) → addressOk s op ≡ true → Kept s (arrived s position op rows q)
+  pub arrived-parts-good : (p : Plan) → PlanOk s p → Kept s (arrived s position p rows q)
   unfolding arrived
-  arrived-parts-good Idle t = (put-row-good s rows gr position emptyRow h (empty-row-ok (wordsOf s) (s .c)), gq)
-  arrived-parts-good (Read a) t =
-      let l : a .0 < wordsOf s = ltb-true (a .0) (wordsOf s) t in
-      pick-good (Kept s) (eqb (s .mode) 1)
-      (read-merged-good a l (newestLive s position a rows) (λ i e. scan-below (isOf a) (s .c) rows (s .c - 1) position h e))
-      (read-placed-good a l)
-  arrived-parts-good (Write a w) t =
-      let ok = write-row-ok (wordsOf s) (s .c) (a .0) (ltb-true (a .0) (wordsOf s) t) w in
-      pick-good (Kept s) (eqb (s .mode) 1)
-      (put-row-good s rows gr position (rowWith writeKind (a .0) w 0) h ok, gq)
-      (seated-good (rowWith writeKind (a .0) w 0) (placed s (writeOf s a w) q) ok
-      (placed-good s (writeOf s a w) q gq (write-entry-ok s r a w)))
+  arrived-parts-good p ok = seated-good (p .row) (placedIf s (p .placing) q) (ok .0) (placed-if-good (p .placing) (ok .1))
 
 -- the lent slices after it
 abbrev pub withArrived : Arrived → Lent → Lent
 withArrived w x = record { memory = x .memory; rows = w .1 .0; buffers = w .1 .1 }
 
 pub arrived-good : (s : Setup) (position : ℕ) (op : Operation) (x : Lent) → Good s x → position < s .c → addressOk s op ≡ true
-    → Good s (withArrived (arrived s position op (x .rows) (x .buffers)) x)
+    → Good s (withArrived (arrived s position (planned s position op (x .rows)) (x .rows) (x .buffers)) x)
 arrived-good s position op x g h t =
-    let w = arrived-parts-good s (g .ranges) position h (x .rows) (good-rows s x g) (x .buffers) (good-buffers s x g) op t in
-    good-parts s (withArrived (arrived s position op (x .rows) (x .buffers)) x) (g .ranges) (g .memory-long) (w .0) (w .1)
+    let p : Plan = planned s position op (x .rows) in
+    let w =
+    arrived-parts-good s position h (x .rows) (good-rows s x g) (x .buffers) (good-buffers s x g) p
+    (planned-ok s (g .ranges) position h (x .rows) (good-rows s x g) op t) in
+    good-parts s (withArrived (arrived s position p (x .rows) (x .buffers)) x) (g .ranges) (g .memory-long) (w .0) (w .1)

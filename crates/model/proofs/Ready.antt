@@ -15,7 +15,7 @@ use Rattle.port.specs.declared.Delivery.{Delivery}
 use Rattle.model.specs.declared.State.{State}
 use Rattle.model.specs.Lent.{Lent, Buffers, buffersIn, rowAt, emptyRow, oldestOf, countOf}
 use Rattle.model.specs.Range.{lengthsOk, rowOk, Good, Ready}
-use Rattle.model.specs.Cycle.{served, delivered, retired, nextState, going, withMemory, afterService, passed}
+use Rattle.model.specs.Cycle.{served, delivered, retired, planned, nextState, going, withMemory, afterService, passed}
 use Rattle.model.specs.Calls.{addressOk, freshState, freshLent}
 use Rattle.rings.proofs.Rings.{onward-below}
 use Rattle.model.proofs.Range.{head-ok}
@@ -92,7 +92,8 @@ module _ (s : Setup) (t : State) where
 
   going-ready : (op : Operation) (d : Delivery) (x : Lent) (w : Bool × Buffers) → Ready s t x → addressOk s op ≡ true
       → GoodBuffers s (w .1)
-      → Ready s (going s t op d (x .rows) w .0 .state) (withMemory (x .memory) (going s t op d (x .rows) w) .1)
+      → Ready s (going s t (planned s (t .position) op (x .rows)) d (x .rows) w .0 .state)
+      (withMemory (x .memory) (going s t (planned s (t .position) op (x .rows)) d (x .rows) w) .1)
   going-ready op d x (true, q) r a g =
       record {
         good = arrived-good s (t .position) op (withBuffers q x) (with-buffers-good s x q (r .good) g) (r .position) a;

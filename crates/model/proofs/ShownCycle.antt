@@ -21,10 +21,12 @@ use Rattle.model.specs.declared.Row.{Row}
 use Rattle.model.specs.declared.Entry.{Entry}
 use Rattle.model.specs.declared.Found.{Found}
 use Rattle.model.specs.declared.Found.the-variants.{At, Nothing}
+use Rattle.model.specs.declared.Placing.{Placing}
+use Rattle.model.specs.declared.Placing.the-variants.{NoEntry, OneEntry}
 use Rattle.rings.specs.Places.{back}
 use Rattle.model.specs.Lent.{Lent, Buffers, emptyKind, writeKind, readKind, waitingKind, rowWith, rowAt, emptyRow, countOf}
 use Rattle.model.specs.Range.{rowOk, Good}
-use Rattle.model.specs.Cycle.{delivered, isOf, newestLive, newestWrite, placedAt, placed, writeOf, readOf, retiredWrite, retiredRow, retired, Arrived, noted, seated, readPlaced, joined, readMerged, arrived, nextState}
+use Rattle.model.specs.Cycle.{delivered, isOf, newestLive, newestWrite, placedAt, placed, placedIf, writeOf, readOf, givenUpWrite, givenUpRow, retired, planWith, readPlan, mergedRow, mergedPlan, planned, Arrived, seated, arrived, nextState}
 use Rattle.model.specs.Calls.{addressOk}
 use Rattle.choice.proofs.Tests.{pick-good, same-or-not}
 use Rattle.rings.proofs.Rings.{back-below}
@@ -104,7 +106,7 @@ module _ (s : Setup) (t : State) (x : Lent) (g : Good s x) where
     -- a write
     retire-write : (a : Address) (w link : ℕ) → a .0 < wordsOf s
         → retireRowC (configOf s) (s .k) (put (cellOf (mapOf s) a .0) w) (shown s t x)
-        ≡ shownKept s t x (retiredWrite s (rowWith writeKind (a .0) w link) (newestWrite s (t .position) a (x .rows)) (x .buffers))
+        ≡ shownKept s t x (placedIf s (givenUpWrite s (rowWith writeKind (a .0) w link) (newestWrite s (t .position) a (x .rows))) (x .buffers))
     retire-write a w link l =
         ap (λ (b : Bool). shedC b (roomC (s .k) (bankOf (mapOf s) (cellOf (mapOf s) a)) (shown s t x)) (bankOf (mapOf s) (cellOf (mapOf s) a)) (wr (cellOf (mapOf s) a .0) w) (shown s t x))
         (newer-shown s (g .ranges) a l (x .rows) (good-rows s x g) (s .c - 1) (t .position) h)
@@ -112,17 +114,17 @@ module _ (s : Setup) (t : State) (x : Lent) (g : Good s x) where
       where
         go : (f : Found)
             → shedC (isFound f) (roomC (s .k) (bankOf (mapOf s) (cellOf (mapOf s) a)) (shown s t x)) (bankOf (mapOf s) (cellOf (mapOf s) a)) (wr (cellOf (mapOf s) a .0) w) (shown s t x)
-            ≡ shownKept s t x (retiredWrite s (rowWith writeKind (a .0) w link) f (x .buffers))
+            ≡ shownKept s t x (placedIf s (givenUpWrite s (rowWith writeKind (a .0) w link) f) (x .buffers))
         go (At i) = refl
         go Nothing = shed-shown (writeOf s a w)
 
     retire-row : (r : Row) → rowOk (wordsOf s) (s .c) r ≡ true
-        → retireRowC (configOf s) (s .k) (shownRow s r) (shown s t x) ≡ shownKept s t x (retiredRow s (t .position) r (x .rows) (x .buffers))
+        → retireRowC (configOf s) (s .k) (shownRow s r) (shown s t x) ≡ shownKept s t x (placedIf s (givenUpRow s (t .position) r (x .rows)) (x .buffers))
     retire-row r ok =
         by-kind
         (λ (k : ℕ). ((k ≡ emptyKind → ⊥) → r .address .0 < wordsOf s)
         → retireRowC (configOf s) (s .k) (shownRow s (ofKind r k)) (shown s t x)
-        ≡ shownKept s t x (retiredRow s (t .position) (ofKind r k) (x .rows) (x .buffers)))
+        ≡ shownKept s t x (placedIf s (givenUpRow s (t .position) (ofKind r k) (x .rows)) (x .buffers)))
         (λ n. refl)
         (λ n. retire-write (r .address) (r .word) (r .link) (n (λ z. omega arith)))
         (λ n. refl)
@@ -137,7 +139,7 @@ module _ (s : Setup) (t : State) (x : Lent) (g : Good s x) where
     retirement-shown = go (merging s)
       where
         go : (m : Bool) → retireC m (configOf s) (s .k) (shown s t x)
-            ≡ shownKept s t x (pick m (retiredRow s (t .position) (rowAt (s .c) (x .rows) (t .position)) (x .rows) (x .buffers)) (true, x .buffers))
+            ≡ shownKept s t x (placedIf s (pick m (givenUpRow s (t .position) (rowAt (s .c) (x .rows) (t .position)) (x .rows)) NoEntry) (x .buffers))
         go true =
             ap (λ (r : machine.Row ℕ). retireRowC (configOf s) (s .k) r (shown s t x)) (tab-at s (x .rows) (t .position) h)
             ∙ retire-row (rowAt (s .c) (x .rows) (t .position)) (g .rows-ok (t .position) h)
@@ -151,11 +153,11 @@ pub retired-unmoved : (s : Setup) (position : ℕ) (rows : List ℕ) (q : Buffer
 unfolding retired placed
 retired-unmoved s position rows q =
     let r : Row = rowAt (s .c) rows position in
-    pick-good (Unmoved q) (merging s)
-    (pick-good (Unmoved q) (eqb (r .kind) writeKind) (go (newestWrite s position (r .address) rows)) (λ e. refl))
+    pick-good (λ (p : Placing). Unmoved q (placedIf s p q)) (merging s)
+    (pick-good (λ (p : Placing). Unmoved q (placedIf s p q)) (eqb (r .kind) writeKind) (go (newestWrite s position (r .address) rows)) (λ e. refl))
     (λ e. refl)
   where
-    go : (f : Found) → Unmoved q (retiredWrite s (rowAt (s .c) rows position) f q)
+    go : (f : Found) → Unmoved q (placedIf s (givenUpWrite s (rowAt (s .c) rows position) f) q)
     go (At i) = λ e. refl
     go Nothing =
         let r : Row = rowAt (s .c) rows position in
@@ -185,7 +187,7 @@ module _ (s : Setup) (t : State) (x : Lent) where
 module _ (s : Setup) (t : State) (turn : t .turn < s .m) (h : t .position < s .c) where
   -- the row of this cycle is filled, and the next cycle begins
   note-shown : (x : Lent) → GoodRows s (x .rows) → (r : Row)
-      → noteC (configOf s) (shownRow s r) (shown s t x) ≡ shown s (nextState s t) (withArrived (noted s (t .position) r (x .rows) (x .buffers)) x)
+      → noteC (configOf s) (shownRow s r) (shown s t x) ≡ shown s (nextState s t) (withArrived (seated s (t .position) r (x .rows) (true, x .buffers)) x)
   note-shown x g r =
       let n : suc (s .c - 1) ≡ s .c = omega arith in
       same-machine
@@ -196,12 +198,14 @@ module _ (s : Setup) (t : State) (turn : t .turn < s .m) (h : t .position < s .c
       (ap (λ (c : ℕ). concrete.onward c (t .position)) n ∙ onward-shown (s .c) (t .position) h)
 
   module _ (x : Lent) (g : Good s x) where
-    only-shown : (r : Row) → land s t x (only (shownRow s r)) ≡ shownLanded s t x (noted s (t .position) r (x .rows) (x .buffers))
+    only-shown : (r : Row) → land s t x (only (shownRow s r)) ≡ shownLanded s t x (arrived s (t .position) (planWith r NoEntry) (x .rows) (x .buffers))
+    unfolding arrived
     only-shown r = ap (landed true) (note-shown x (good-rows s x g) r)
 
     seat-shown : (e : Entry) (r : Row)
         → land s t x (needs (bankOf (mapOf s) (e .cell)) (shownEntry e) (shownRow s r))
-        ≡ shownLanded s t x (seated s (t .position) r (x .rows) (placed s e (x .buffers)))
+        ≡ shownLanded s t x (arrived s (t .position) (planWith r (OneEntry e)) (x .rows) (x .buffers))
+    unfolding arrived
     seat-shown e r =
         let b : ℕ = bankOf (mapOf s) (e .cell) in
         ⊎-elim
@@ -217,12 +221,12 @@ module _ (s : Setup) (t : State) (turn : t .turn < s .m) (h : t .position < s .c
     -- a read that finds the row r live
     echo-shown : (a : Address) (r : Row) → r .kind ≤ waitingKind → isOf a r ≡ true
         → land s t x (echoed s t x a (shownRow s r))
-        ≡ shownLanded s t x (noted s (t .position) (joined a r) (x .rows) (x .buffers))
+        ≡ shownLanded s t x (arrived s (t .position) (planWith (mergedRow a r) NoEntry) (x .rows) (x .buffers))
     echo-shown a r =
         by-kind
         (λ (k : ℕ). isOf a (ofKind r k) ≡ true
         → land s t x (echoed s t x a (shownRow s (ofKind r k)))
-        ≡ shownLanded s t x (noted s (t .position) (joined a (ofKind r k)) (x .rows) (x .buffers)))
+        ≡ shownLanded s t x (arrived s (t .position) (planWith (mergedRow a (ofKind r k)) NoEntry) (x .rows) (x .buffers)))
         (λ e. absurd (false≢true e))
         (λ e. only-shown (rowWith readKind (a .0) (r .word) 0))
         (λ e. only-shown (rowWith readKind (a .0) (r .word) 0))
@@ -231,7 +235,7 @@ module _ (s : Setup) (t : State) (turn : t .turn < s .m) (h : t .position < s .c
 
     merge-shown : (a : Address) (f : Found) → ((i : ℕ) → f ≡ At i → (i < s .c) × (isOf a (rowAt (s .c) (x .rows) i) ≡ true))
         → land s t x (merged s t x a (shownFound f))
-        ≡ shownLanded s t x (readMerged s (t .position) a f (x .rows) (x .buffers))
+        ≡ shownLanded s t x (arrived s (t .position) (mergedPlan s (t .position) a f (x .rows)) (x .rows) (x .buffers))
     merge-shown a (At i) n =
         let l : i < s .c = n i refl .0 in
         ap (λ (r : machine.Row ℕ). land s t x (echoed s t x a r)) (tab-at s (x .rows) i l)
@@ -241,7 +245,7 @@ module _ (s : Setup) (t : State) (turn : t .turn < s .m) (h : t .position < s .c
     read-shown : (a : Address) → a .0 < wordsOf s → (m : Bool)
         → arriveC m (configOf s) (s .k) (read (cellOf (mapOf s) a .0)) (shown s t x)
         ≡ shownLanded s t x
-        (pick m (readMerged s (t .position) a (newestLive s (t .position) a (x .rows)) (x .rows) (x .buffers)) (readPlaced s (t .position) a (x .rows) (x .buffers)))
+        (arrived s (t .position) (pick m (mergedPlan s (t .position) a (newestLive s (t .position) a (x .rows)) (x .rows)) (readPlan s (t .position) a)) (x .rows) (x .buffers))
     read-shown a l true =
         ap (λ (f : machine.Found). land s t x (merged s t x a f))
         (look-shown s (g .ranges) a l (x .rows) (good-rows s x g) (s .c - 1) (t .position) h)
@@ -252,13 +256,12 @@ module _ (s : Setup) (t : State) (turn : t .turn < s .m) (h : t .position < s .c
     write-shown : (a : Address) (w : ℕ) (m : Bool)
         → arriveC m (configOf s) (s .k) (write (cellOf (mapOf s) a .0) w) (shown s t x)
         ≡ shownLanded s t x
-        (pick m (noted s (t .position) (rowWith writeKind (a .0) w 0) (x .rows) (x .buffers)) (seated s (t .position) (rowWith writeKind (a .0) w 0) (x .rows) (placed s (writeOf s a w) (x .buffers))))
+        (arrived s (t .position) (planWith (rowWith writeKind (a .0) w 0) (pick m NoEntry (OneEntry (writeOf s a w)))) (x .rows) (x .buffers))
     write-shown a w true = only-shown (rowWith writeKind (a .0) w 0)
     write-shown a w false = seat-shown (writeOf s a w) (rowWith writeKind (a .0) w 0)
 
     pub arrival-shown : (op : Operation) → addressOk s op ≡ true
-        → arriveC (merging s) (configOf s) (s .k) (shownOp s op) (shown s t x) ≡ shownLanded s t x (arrived s (t .position) op (x .rows) (x .buffers))
-    unfolding arrived
+        → arriveC (merging s) (configOf s) (s .k) (shownOp s op) (shown s t x) ≡ shownLanded s t x (arrived s (t .position) (planned s (t .position) op (x .rows)) (x .rows) (x .buffers))
     arrival-shown Idle e = only-shown emptyRow
     arrival-shown (Read a) e = read-shown a (ltb-true (a .0) (wordsOf s) e) (merging s)
     arrival-shown (Write a w) e = write-shown a w (merging s)

@@ -13,9 +13,10 @@ use Rattle.setup.specs.declared.Setup.{Setup}
 use Rattle.port.specs.declared.Operation.{Operation}
 use Rattle.port.specs.declared.Delivery.{Delivery}
 use Rattle.model.specs.declared.State.{State}
+use Rattle.model.specs.declared.Plan.{Plan}
 use Rattle.model.specs.Lent.{Lent, Buffers, rowAt, countOf}
 use Rattle.model.specs.Range.{Good, Ready}
-use Rattle.model.specs.Cycle.{served, delivered, retired, arrived, nextState, going, withMemory, afterService, passed}
+use Rattle.model.specs.Cycle.{served, delivered, retired, planned, arrived, nextState, going, withMemory, afterService, passed}
 use Rattle.model.specs.Calls.{addressOk, freshState, freshLent}
 use Rattle.choice.proofs.Tests.{below-or-not}
 use Rattle.model.proofs.Good.{withBuffers}
@@ -78,25 +79,28 @@ taken-answer : (b : Bool) → cond b done dropped ≡ pick b done dropped
 taken-answer true = refl
 taken-answer false = refl
 
-going-delivery : (s : Setup) (t : State) (op : Operation) (d : Delivery) (rows : List ℕ) (w : Bool × Buffers) → going s t op d rows w .0 .reply .delivery ≡ d
-going-delivery s t op d rows (true, q) = refl
-going-delivery s t op d rows (false, q) = refl
+going-delivery : (s : Setup) (t : State) (p : Plan) (d : Delivery) (rows : List ℕ) (w : Bool × Buffers) → going s t p d rows w .0 .reply .delivery ≡ d
+going-delivery s t p d rows (true, q) = refl
+going-delivery s t p d rows (false, q) = refl
 
 -- what is left of a cycle once retirement has left w
 module _ (s : Setup) (t : State) (op : Operation) (x : Lent) (ok : addressOk s op ≡ true) (turn : t .turn < s .m) (position : t .position < s .c) where
+  abbrev plan : Plan
+  plan = planned s (t .position) op (x .rows)
+
   going-answer : (d : Delivery) (w : Bool × Buffers) → Good s (withBuffers (w .1) x)
-      → answerC? (merging s) (configOf s) (s .k) (shownOp s op) (shownKept s t x w) ≡ going s t op d (x .rows) w .0 .reply .answer
+      → answerC? (merging s) (configOf s) (s .k) (shownOp s op) (shownKept s t x w) ≡ going s t plan d (x .rows) w .0 .reply .answer
   going-answer d (true, q) g =
       ap (λ (l : CLanded ℕ). cond (l .taken) done dropped) (arrival-shown s t turn position (withBuffers q x) g op ok)
-      ∙ taken-answer (arrived s (t .position) op (x .rows) q .0)
+      ∙ taken-answer (arrived s (t .position) plan (x .rows) q .0)
   going-answer d (false, q) g = refl
 
   going-state : (d : Delivery) (w : Bool × Buffers) → Good s (withBuffers (w .1) x) → (w .0 ≡ false → w .1 ≡ x .buffers) → t .stopped ≡ false
       → finishC (merging s) (configOf s) (s .k) (shownOp s op) (shown s t x) (shownKept s t x w)
-      ≡ shownRun s (going s t op d (x .rows) w .0 .state) (withMemory (x .memory) (going s t op d (x .rows) w) .1)
+      ≡ shownRun s (going s t plan d (x .rows) w .0 .state) (withMemory (x .memory) (going s t plan d (x .rows) w) .1)
   going-state d (true, q) g u e =
       ap (λ (l : CLanded ℕ). on (l .st)) (arrival-shown s t turn position (withBuffers q x) g op ok)
-      ∙ sym (on-shown s (nextState s t) (withArrived (arrived s (t .position) op (x .rows) q) x) e)
+      ∙ sym (on-shown s (nextState s t) (withArrived (arrived s (t .position) plan (x .rows) q) x) e)
   going-state d (false, q) g u e = ap (λ (p : Buffers). off (shown s t (withBuffers p x))) (sym (u refl))
 
 module _ (s : Setup) (t : State) (op : Operation) (x : Lent) (r : Ready s t x) where
@@ -108,7 +112,7 @@ module _ (s : Setup) (t : State) (op : Operation) (x : Lent) (r : Ready s t x) w
       ap (deliverC (configOf s)) (service-shown s t x (r .good))
       ∙ delivery-shown s t y (served-good s (t .turn) x (r .good)) (r .position)
       ∙ ap shownDelivery
-      (sym (going-delivery s t op (delivered s (t .position) (y .rows)) (y .rows) (retired s (t .position) (y .rows) (y .buffers))))
+      (sym (going-delivery s t (planned s (t .position) op (y .rows)) (delivered s (t .position) (y .rows)) (y .rows) (retired s (t .position) (y .rows) (y .buffers))))
 
   module _ (ok : addressOk s op ≡ true) where
     pub passed-answer : replyC (merging s) (configOf s) (s .k) (shownOp s op) (on (shown s t x)) .answer ≡ passed s t op x .0 .reply .answer

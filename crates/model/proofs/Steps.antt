@@ -16,8 +16,9 @@ use Rattle.port.specs.declared.Delivery.{Delivery}
 use Rattle.port.specs.declared.Delivery.the-variants.{None}
 use Rattle.port.specs.declared.Reply.{Reply}
 use Rattle.model.specs.declared.State.{State}
+use Rattle.model.specs.declared.Plan.{Plan}
 use Rattle.model.specs.Lent.{Lent, Buffers}
-use Rattle.model.specs.Cycle.{served, delivered, retired, arrived, Arrived, nextState, stoppedState, finished, going, afterService, withMemory, passed}
+use Rattle.model.specs.Cycle.{served, delivered, retired, planned, Arrived, arrived, nextState, stoppedState, finished, going, afterService, withMemory, passed}
 use Rattle.model.specs.Calls.{addressOk}
 use Rattle.model.specs.Sram.{due}
 use Rattle.model.specs.Ledger.{Ledger, ledger, serviced, retires, arrives, Need, nowhere, at, full, given, noted, replied, landed, passing, entered}
@@ -30,47 +31,47 @@ use Rattle.model.specs.Promises as P
 abbrev pub stateBy : Setup → State → ℕ → State
 stateBy s t answer = pick (eqb answer stopping) (stoppedState t) (nextState s t)
 
-module _ (s : Setup) (t : State) (op : Operation) where
+module _ (s : Setup) (t : State) where
   finished-state : (d : Delivery) (memory : List ℕ) (w : Arrived)
       → withMemory memory (finished s t d w) .0 .state ≡ stateBy s t (withMemory memory (finished s t d w) .0 .reply .answer)
   finished-state d memory (true, w) = refl
   finished-state d memory (false, w) = refl
 
-  going-state : (d : Delivery) (memory rows : List ℕ) (w : Bool × Buffers)
-      → withMemory memory (going s t op d rows w) .0 .state ≡ stateBy s t (withMemory memory (going s t op d rows w) .0 .reply .answer)
-  going-state d memory rows (true, q) = finished-state d memory (arrived s (t .position) op rows q)
-  going-state d memory rows (false, q) = refl
+  going-state : (p : Plan) (d : Delivery) (memory rows : List ℕ) (w : Bool × Buffers)
+      → withMemory memory (going s t p d rows w) .0 .state ≡ stateBy s t (withMemory memory (going s t p d rows w) .0 .reply .answer)
+  going-state p d memory rows (true, q) = finished-state d memory (arrived s (t .position) p rows q)
+  going-state p d memory rows (false, q) = refl
 
-  going-stamp : (d : Delivery) (memory rows : List ℕ) (w : Bool × Buffers) → withMemory memory (going s t op d rows w) .0 .reply .stamp ≡ t .stamp
-  going-stamp d memory rows (true, q) = refl
-  going-stamp d memory rows (false, q) = refl
+  going-stamp : (p : Plan) (d : Delivery) (memory rows : List ℕ) (w : Bool × Buffers) → withMemory memory (going s t p d rows w) .0 .reply .stamp ≡ t .stamp
+  going-stamp p d memory rows (true, q) = refl
+  going-stamp p d memory rows (false, q) = refl
 
   -- a cycle that nothing refuses answers 0, 5 or 6
   finished-answer : (d : Delivery) (memory : List ℕ) (w : Arrived) → P.Passes (withMemory memory (finished s t d w) .0 .reply .answer)
   finished-answer d memory (true, w) = inl refl
   finished-answer d memory (false, w) = inr (inl refl)
 
-  going-answer : (d : Delivery) (memory rows : List ℕ) (w : Bool × Buffers) → P.Passes (withMemory memory (going s t op d rows w) .0 .reply .answer)
-  going-answer d memory rows (true, q) = finished-answer d memory (arrived s (t .position) op rows q)
-  going-answer d memory rows (false, q) = inr (inr refl)
+  going-answer : (p : Plan) (d : Delivery) (memory rows : List ℕ) (w : Bool × Buffers) → P.Passes (withMemory memory (going s t p d rows w) .0 .reply .answer)
+  going-answer p d memory rows (true, q) = finished-answer d memory (arrived s (t .position) p rows q)
+  going-answer p d memory rows (false, q) = inr (inr refl)
 
-  pub passed-answer : (x : Lent) → P.Passes (passed s t op x .0 .reply .answer)
+  pub passed-answer : (op : Operation) (x : Lent) → P.Passes (passed s t op x .0 .reply .answer)
   unfolding passed afterService
-  passed-answer x =
+  passed-answer op x =
       let y : Lent = served s (t .turn) x in
-      going-answer (delivered s (t .position) (y .rows)) (y .memory) (y .rows) (retired s (t .position) (y .rows) (y .buffers))
+      going-answer (planned s (t .position) op (y .rows)) (delivered s (t .position) (y .rows)) (y .memory) (y .rows) (retired s (t .position) (y .rows) (y .buffers))
 
-  pub passed-state : (x : Lent) → passed s t op x .0 .state ≡ stateBy s t (passed s t op x .0 .reply .answer)
+  pub passed-state : (op : Operation) (x : Lent) → passed s t op x .0 .state ≡ stateBy s t (passed s t op x .0 .reply .answer)
   unfolding passed afterService
-  passed-state x =
+  passed-state op x =
       let y : Lent = served s (t .turn) x in
-      going-state (delivered s (t .position) (y .rows)) (y .memory) (y .rows) (retired s (t .position) (y .rows) (y .buffers))
+      going-state (planned s (t .position) op (y .rows)) (delivered s (t .position) (y .rows)) (y .memory) (y .rows) (retired s (t .position) (y .rows) (y .buffers))
 
-  pub passed-stamp : (x : Lent) → passed s t op x .0 .reply .stamp ≡ t .stamp
+  pub passed-stamp : (op : Operation) (x : Lent) → passed s t op x .0 .reply .stamp ≡ t .stamp
   unfolding passed afterService
-  passed-stamp x =
+  passed-stamp op x =
       let y : Lent = served s (t .turn) x in
-      going-stamp (delivered s (t .position) (y .rows)) (y .memory) (y .rows) (retired s (t .position) (y .rows) (y .buffers))
+      going-stamp (planned s (t .position) op (y .rows)) (delivered s (t .position) (y .rows)) (y .memory) (y .rows) (retired s (t .position) (y .rows) (y .buffers))
 
 ------------------------------------------------------------------------
 -- The ledger

@@ -19,6 +19,9 @@ use Rattle.model.specs.declared.Row.{Row}
 use Rattle.model.specs.declared.Entry.{Entry}
 use Rattle.model.specs.declared.Found.{Found}
 use Rattle.model.specs.declared.Found.the-variants.{At, Nothing}
+use Rattle.model.specs.declared.Placing.{Placing}
+use Rattle.model.specs.declared.Placing.the-variants.{NoEntry, OneEntry}
+use Rattle.model.specs.declared.Plan.{Plan}
 use Rattle.model.specs.declared.Cycled.{Cycled}
 use Rattle.rings.specs.Places.{onward, back}
 use Rattle.model.specs.Lent.{Lent, Buffers, buffersIn, emptyKind, writeKind, readKind, waitingKind, rowWith, rowAt, putRow, emptyRow, readEntry, writeEntry, entryWith, entryAt, putEntry, oldestOf, countOf, putHead}
@@ -122,6 +125,11 @@ placed s e q =
     pick (eqb (countOf (q .heads) (bankOf (mapOf s) (e .cell))) (s .k)) (false, q)
     (true, placedAt s (bankOf (mapOf s) (e .cell)) e q)
 
+-- what is placed, if anything is
+abbrev pub placedIf : Setup → Placing → Buffers → Bool × Buffers
+placedIf s NoEntry q = (true, q)
+placedIf s (OneEntry e) q = placed s e q
+
 -- write entries carry their own cell and word
 abbrev pub writeOf : Setup → Address → ℕ → Entry
 writeOf s a w = entryWith writeEntry 0 (cellOf (mapOf s) a .0) w
@@ -132,62 +140,64 @@ readOf s position a = entryWith readEntry position (cellOf (mapOf s) a .0) 0
 ------------------------------------------------------------------------
 -- 3. Retirement. The row filled at t − C is given up.
 
--- a write, if no newer live row is a write to its address, is placed in its bank's buffer; false where that is full
-abbrev pub retiredWrite : Setup → Row → Found → Buffers → Bool × Buffers
-retiredWrite s r (At i) q = (true, q)
-retiredWrite s r Nothing q = placed s (writeOf s (r .address) (r .word)) q
+-- if no newer live row is a write to its address, a write entry is placed in its bank's buffer
+abbrev pub givenUpWrite : Setup → Row → Found → Placing
+givenUpWrite s r (At i) = NoEntry
+givenUpWrite s r Nothing = OneEntry (writeOf s (r .address) (r .word))
 
-abbrev pub retiredRow : Setup → ℕ → Row → List ℕ → Buffers → Bool × Buffers
-retiredRow s position r rows q =
-    pick (eqb (r .kind) writeKind) (retiredWrite s r (newestWrite s position (r .address) rows) q) (true, q)
+-- if it is a write
+abbrev pub givenUpRow : Setup → ℕ → Row → List ℕ → Placing
+givenUpRow s position r rows =
+    pick (eqb (r .kind) writeKind) (givenUpWrite s r (newestWrite s position (r .address) rows)) NoEntry
 
 -- in merging mode
+abbrev pub givenUp : Setup → ℕ → List ℕ → Placing
+givenUp s position rows = pick (merging s) (givenUpRow s position (rowAt (s .c) rows position) rows) NoEntry
+
+-- false where a retiring write needs a place and its buffer holds K
 unfoldable pub retired : Setup → ℕ → List ℕ → Buffers → Bool × Buffers
-retired s position rows q = pick (merging s) (retiredRow s position (rowAt (s .c) rows position) rows q) (true, q)
+retired s position rows q = placedIf s (givenUp s position rows) q
 
 ------------------------------------------------------------------------
--- 4. Arrival. The operation fills the row of cycle t. It is taken where this answers true.
+-- 4. Arrival. The operation is idle, a read or a write, and fills the row of cycle t.
 
--- the rows and the buffers, and whether the operation is taken
+abbrev pub planWith : Row → Placing → Plan
+planWith row placing = record { row = row; placing = placing }
+
+-- a read places an entry, and its row waits on itself
+abbrev pub readPlan : Setup → ℕ → Address → Plan
+readPlan s position a = planWith (rowWith waitingKind (a .0) 0 position) (OneEntry (readOf s position a))
+
+-- a write there, or a read with its word, gives the word at once; a read still waiting makes the new row wait on the row whose entry is in the buffer
+abbrev pub mergedRow : Address → Row → Row
+mergedRow a r = pick (eqb (r .kind) waitingKind) (rowWith waitingKind (a .0) 0 (r .link)) (rowWith readKind (a .0) (r .word) 0)
+
+-- merging, a read looks for the newest live row of its address; with nothing live, the read places an entry
+abbrev pub mergedPlan : Setup → ℕ → Address → Found → List ℕ → Plan
+mergedPlan s position a (At i) rows = planWith (mergedRow a (rowAt (s .c) rows i)) NoEntry
+mergedPlan s position a Nothing rows = readPlan s position a
+
+-- merging, a write places nothing; plain, it places an entry
+abbrev pub writePlan : Setup → Address → ℕ → Plan
+writePlan s a w = planWith (rowWith writeKind (a .0) w 0) (pick (merging s) NoEntry (OneEntry (writeOf s a w)))
+
+abbrev pub planned : Setup → ℕ → Operation → List ℕ → Plan
+planned s position Idle rows = planWith emptyRow NoEntry
+planned s position (Read a) rows =
+    pick (merging s) (mergedPlan s position a (newestLive s position a rows) rows) (readPlan s position a)
+planned s position (Write a w) rows = writePlan s a w
+
+-- whether the operation is taken, and the rows and the buffers
 abbrev pub Arrived : Type 0
 Arrived = Bool × (List ℕ × Buffers)
-
-abbrev pub noted : Setup → ℕ → Row → List ℕ → Buffers → Arrived
-noted s position r rows q = (true, (putRow (s .c) rows position r, q))
 
 -- the row r, where its entry found a place; dropped, its row is empty
 abbrev pub seated : Setup → ℕ → Row → List ℕ → Bool × Buffers → Arrived
 seated s position r rows (taken, q) = (taken, (putRow (s .c) rows position (pick taken r emptyRow), q))
 
--- a read places an entry, and its row waits on itself
-abbrev pub readPlaced : Setup → ℕ → Address → List ℕ → Buffers → Arrived
-readPlaced s position a rows q =
-    seated s position (rowWith waitingKind (a .0) 0 position) rows (placed s (readOf s position a) q)
-
--- a write there, or a read with its word, gives the word at once; a read still waiting makes the new row wait on the row whose entry is in the buffer
-abbrev pub joined : Address → Row → Row
-joined a r = pick (eqb (r .kind) waitingKind) (rowWith waitingKind (a .0) 0 (r .link)) (rowWith readKind (a .0) (r .word) 0)
-
--- with nothing live, the read places an entry
-abbrev pub readMerged : Setup → ℕ → Address → Found → List ℕ → Buffers → Arrived
-readMerged s position a (At i) rows q = noted s position (joined a (rowAt (s .c) rows i)) rows q
-readMerged s position a Nothing rows q = readPlaced s position a rows q
-
-abbrev pub readArrived : Setup → ℕ → Address → List ℕ → Buffers → Arrived
-readArrived s position a rows q =
-    pick (merging s) (readMerged s position a (newestLive s position a rows) rows q)
-    (readPlaced s position a rows q)
-
--- merging, a write places nothing; plain, it places an entry
-abbrev pub writeArrived : Setup → ℕ → Address → ℕ → List ℕ → Buffers → Arrived
-writeArrived s position a w rows q =
-    pick (merging s) (noted s position (rowWith writeKind (a .0) w 0) rows q)
-    (seated s position (rowWith writeKind (a .0) w 0) rows (placed s (writeOf s a w) q))
-
-unfoldable pub arrived : Setup → ℕ → Operation → List ℕ → Buffers → Arrived
-arrived s position Idle rows q = noted s position emptyRow rows q
-arrived s position (Read a) rows q = readArrived s position a rows q
-arrived s position (Write a w) rows q = writeArrived s position a w rows q
+-- as it is planned
+unfoldable pub arrived : Setup → ℕ → Plan → List ℕ → Buffers → Arrived
+arrived s position p rows q = seated s position (p .row) rows (placedIf s (p .placing) q)
 
 ------------------------------------------------------------------------
 -- The cycle
@@ -218,14 +228,14 @@ abbrev pub finished : Setup → State → Delivery → Arrived → Left
 finished s t d (taken, w) = (cycled t (pick taken done dropped) d (nextState s t), w)
 
 -- a retiring write that finds its buffer full stops the machine, and arrival is not looked at
-abbrev pub going : Setup → State → Operation → Delivery → List ℕ → Bool × Buffers → Left
-going s t op d rows (true, q) = finished s t d (arrived s (t .position) op rows q)
-going s t op d rows (false, q) = (cycled t stopping d (stoppedState t), (rows, q))
+abbrev pub going : Setup → State → Plan → Delivery → List ℕ → Bool × Buffers → Left
+going s t p d rows (true, q) = finished s t d (arrived s (t .position) p rows q)
+going s t p d rows (false, q) = (cycled t stopping d (stoppedState t), (rows, q))
 
 -- delivery, retirement, arrival
 unfoldable pub afterService : Setup → State → Operation → List ℕ → Buffers → Left
 afterService s t op rows q =
-    going s t op (delivered s (t .position) rows) rows (retired s (t .position) rows q)
+    going s t (planned s (t .position) op rows) (delivered s (t .position) rows) rows (retired s (t .position) rows q)
 
 abbrev pub withMemory : List ℕ → Left → Cycled × Lent
 withMemory memory (r, (rows, q)) = (r, record { memory = memory; rows = rows; buffers = q })

@@ -66,6 +66,18 @@ pub enum Found {
     Nothing,
 }
 
+// What retirement or arrival places: no entry, or one.
+pub enum Placing {
+    NoEntry,
+    OneEntry(Entry),
+}
+
+// What an operation is to do at its arrival: the row that it fills, and what it places.
+pub struct Plan {
+    pub row: Row,
+    pub placing: Placing,
+}
+
 // What a cycle returns.
 pub struct Cycled {
     pub state: State,

@@ -1,38 +1,37 @@
--- `arrival::arrive` meets its contract: the cases are the definition's. Assumes nothing.
-use Rattle.arrival.proofs.Ways.{fit-row, arrive-idle, arrive-reads, arrive-writes}
+-- `arrival::arrive` meets its contract: the calls give the row and what is placed. Assumes nothing.
+use Prim.Native.Nat.{ℕ}
+use mathlib.Core.Path.{_≡_}
+use mathlib.Core.Bool.{Bool}
+use mathlib.Core.List.{List}
+use Rattle.choice.specs.Choice.{pick}
+use Rattle.setup.specs.declared.Setup.{Setup}
+use Rattle.model.specs.declared.Row.{Row}
+use Rattle.model.specs.declared.Plan.{Plan}
+use Rattle.model.specs.Lent.{Buffers, putRow, emptyRow}
+use Rattle.model.specs.Cycle.{placedIf, arrived}
 use borrow.Author.Needs.{needs}
 use Rattle.arrival.proofs.arrive.Statement.{statement}
 use Rattle.arrival.proofs.arrive.Tie as tie
 
-enum-told : tie.Need-enum-told
-enum-told c = search needs
+plan-arrives : (s : Setup) (position : ℕ) (p : Plan) (rows : List ℕ) (q q′ : Buffers) (taken : Bool) (x : Row) (rows′ : List ℕ) → (taken, q′) ≡ placedIf s (p .placing) q
+    → x ≡ pick taken (p .row) emptyRow → rows′ ≡ putRow (s .c) rows position x → (taken, (rows′, q′)) ≡ arrived s position p rows q
+unfolding arrived
+plan-arrives s position p rows q q′ taken x rows′ z ex er = rw (← z, er, ex)
+
+place-if-requires : tie.Need-place-if-requires
+place-if-requires c κs = search needs
 
 cast-put-row : tie.Need-cast-put-row
 cast-put-row c = search needs
 
-empty-requires : tie.Need-empty-requires
-empty-requires c κs = search needs
+seat-requires : tie.Need-seat-requires
+seat-requires c κs = search needs
 
 put-row-requires : tie.Need-put-row-requires
-put-row-requires c κs = search (fit-row)
-
-enum-known-op : tie.Need-enum-known-op
-enum-known-op c = search needs
-
-arrive-read-requires : tie.Need-arrive-read-requires
-arrive-read-requires c κs = search needs
-
-enum-known-op-2 : tie.Need-enum-known-op-2
-enum-known-op-2 c = search needs
-
-arrive-write-requires : tie.Need-arrive-write-requires
-arrive-write-requires c κs = search needs
+put-row-requires c κs = search needs
 
 same-length : tie.Need-same-length
 same-length c = search needs
-
-returns : tie.Need-returns
-returns c = search (arrive-idle)
 
 same-length-2 : tie.Need-same-length-2
 same-length-2 c = search needs
@@ -40,43 +39,18 @@ same-length-2 c = search needs
 same-length-3 : tie.Need-same-length-3
 same-length-3 c = search needs
 
-same-length-4 : tie.Need-same-length-4
-same-length-4 c = search needs
-
-returns-2 : tie.Need-returns-2
-returns-2 c = search (arrive-reads)
-
-same-length-5 : tie.Need-same-length-5
-same-length-5 c = search needs
-
-same-length-6 : tie.Need-same-length-6
-same-length-6 c = search needs
-
-same-length-7 : tie.Need-same-length-7
-same-length-7 c = search needs
-
-returns-3 : tie.Need-returns-3
-returns-3 c = search (arrive-writes)
+returns : tie.Need-returns
+returns c = search (plan-arrives)
 
 pub arrive-spec : {M : Type 1} → statement M
 arrive-spec =
     tie.close
     (tie.spec
-    enum-told
+    place-if-requires
     cast-put-row
-    empty-requires
+    seat-requires
     put-row-requires
-    enum-known-op
-    arrive-read-requires
-    enum-known-op-2
-    arrive-write-requires
     same-length
-    returns
     same-length-2
     same-length-3
-    same-length-4
-    returns-2
-    same-length-5
-    same-length-6
-    same-length-7
-    returns-3)
+    returns)

@@ -1,23 +1,66 @@
--- `arrival::go_on` meets its contract: whether retirement found its place is the case of the definition. Assumes nothing.
-use Rattle.arrival.proofs.Ways.{fit-retired, go-finish, go-stop}
+-- `arrival::go_on` meets its contract: what is looked at and planned lands. The buffers of a good room are each as asked for. Assumes nothing.
+use Prim.Native.Nat.{ℕ, _-_, _*_, _<_}
+use native.Mathlib.Omega.{arith}
+use mathlib.Core.Path.{_≡_}
+use mathlib.Core.Bool.{Bool}
+use mathlib.Core.List.{List}
+use Rattle.setup.specs.declared.Setup.{Setup}
+use Rattle.setup.specs.Setup.{banksOf}
+use Rattle.port.specs.declared.Operation.{Operation}
+use Rattle.port.specs.declared.Delivery.{Delivery}
+use Rattle.model.specs.declared.State.{State}
+use Rattle.model.specs.declared.Placing.{Placing}
+use Rattle.model.specs.declared.Plan.{Plan}
+use Rattle.model.specs.declared.Cycled.{Cycled}
+use Rattle.model.specs.Lent.{Buffers, buffersIn}
+use Rattle.model.specs.Cycle.{delivered, placedIf, givenUp, retired, planned, going, afterService}
+use Rattle.model.proofs.Range.{head-oldest, head-count}
+use Rattle.rings.proofs.Rings.{part-within}
+use Rattle.buffers.specs.Bank.{Head, Buffer}
+use Rattle.arrival.specs.Banks.{EachBuffer}
+use Rattle.arrival.specs.Known.{Fit}
 use borrow.Author.Needs.{needs}
 use Rattle.arrival.proofs.go_on.Statement.{statement}
 use Rattle.arrival.proofs.go_on.Tie as tie
 
-cast-position : tie.Need-cast-position
-cast-position c = search needs
+fit-each : (s : Setup) (rows entries heads : List ℕ) → Fit s rows entries heads → EachBuffer s (buffersIn entries heads)
+fit-each s rows entries heads f = record { of = buffer }
+  where
+    buffer : (b : ℕ) → b < banksOf s → Buffer s b (buffersIn entries heads)
+    buffer b h =
+        record {
+          head = record {
+            sizes = f .exact .ranges .sizes;
+            head-within = omega (arith, f .exact .heads-long);
+            oldest-below = head-oldest s heads b (f .heads-ok b h);
+            count-most = head-count s heads b (f .heads-ok b h);
+          };
+          part-within = omega (arith, f .exact .entries-long, part-within b (banksOf s) (s .k) h);
+        }
+
+planned-lands : (s : Setup) (t : State) (op : Operation) (rows : List ℕ) (q : Buffers) (d : Delivery) (g : Placing) (p : Plan) (w : Cycled × (List ℕ × Buffers))
+    → d ≡ delivered s (t .position) rows → g ≡ givenUp s (t .position) rows → p ≡ planned s (t .position) op rows → w ≡ going s t p d rows (placedIf s g q)
+    → w ≡ afterService s t op rows q
+unfolding afterService retired
+planned-lands s t op rows q d g p w ed eg ep z = rw (← ed, ← eg, ← ep) z
+
+cast-deliver : tie.Need-cast-deliver
+cast-deliver c = search needs
 
 deliver-requires : tie.Need-deliver-requires
 deliver-requires c κs = search needs
 
-retire-requires : tie.Need-retire-requires
-retire-requires c κs = search needs
+cast-give-up : tie.Need-cast-give-up
+cast-give-up c = search needs
 
-finish-requires : tie.Need-finish-requires
-finish-requires c κs =
-    let r = c .before .before .before .before .before .before .before .before in
-    let start = r .before .before .before .before .before .before .before .before .before .before in
-    (fit-retired _ _ _ _ _ _ _ _ (start .pre .0) (r .retire .ensures), start .pre .1, start .pre .2)
+give-up-requires : tie.Need-give-up-requires
+give-up-requires c κs = search needs
+
+plan-requires : tie.Need-plan-requires
+plan-requires c κs = search needs
+
+land-requires : tie.Need-land-requires
+land-requires c κs = (search needs, search needs, search (fit-each), search needs, search needs)
 
 same-length : tie.Need-same-length
 same-length c = search needs
@@ -29,41 +72,19 @@ same-length-3 : tie.Need-same-length-3
 same-length-3 c = search needs
 
 returns : tie.Need-returns
-returns c = search (go-finish)
-
-stopped-state-requires : tie.Need-stopped-state-requires
-stopped-state-requires c κs = search needs
-
-cycled-requires : tie.Need-cycled-requires
-cycled-requires c κs = search needs
-
-same-length-4 : tie.Need-same-length-4
-same-length-4 c = search needs
-
-same-length-5 : tie.Need-same-length-5
-same-length-5 c = search needs
-
-same-length-6 : tie.Need-same-length-6
-same-length-6 c = search needs
-
-returns-2 : tie.Need-returns-2
-returns-2 c = search (go-stop)
+returns c = search (planned-lands)
 
 pub go-on-spec : {M : Type 1} → statement M
 go-on-spec =
     tie.close
     (tie.spec
-    cast-position
+    cast-deliver
     deliver-requires
-    retire-requires
-    finish-requires
+    cast-give-up
+    give-up-requires
+    plan-requires
+    land-requires
     same-length
     same-length-2
     same-length-3
-    returns
-    stopped-state-requires
-    cycled-requires
-    same-length-4
-    same-length-5
-    same-length-6
-    returns-2)
+    returns)

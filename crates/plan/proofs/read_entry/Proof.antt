@@ -1,8 +1,8 @@
--- `arrival::read_entry` meets its contract: the address map gives the cell. Assumes nothing.
+-- `plan::read_entry` meets its contract: the address map gives the cell. Assumes nothing.
 use borrow.Author.Needs.{needs}
 use Rattle.setup.proofs.Ranges.{map-sizes}
-use Rattle.arrival.proofs.read_entry.Statement.{statement}
-use Rattle.arrival.proofs.read_entry.Tie as tie
+use Rattle.plan.proofs.read_entry.Statement.{statement}
+use Rattle.plan.proofs.read_entry.Tie as tie
 
 map-requires : tie.Need-map-requires
 map-requires c κs = search needs

@@ -1,8 +1,8 @@
--- `arrival::write_entry` meets its contract: the address map gives the cell. Assumes nothing.
+-- `plan::write_entry` meets its contract: the address map gives the cell. Assumes nothing.
 use borrow.Author.Needs.{needs}
 use Rattle.setup.proofs.Ranges.{map-sizes}
-use Rattle.arrival.proofs.write_entry.Statement.{statement}
-use Rattle.arrival.proofs.write_entry.Tie as tie
+use Rattle.plan.proofs.write_entry.Statement.{statement}
+use Rattle.plan.proofs.write_entry.Tie as tie
 
 map-requires : tie.Need-map-requires
 map-requires c κs = search needs

@@ -1,7 +1,7 @@
--- `arrival::next_state` meets its contract: the calls give the three numbers. Assumes nothing.
+-- `plan::next_state` meets its contract: the calls give the three numbers. Assumes nothing.
 use borrow.Author.Needs.{needs}
-use Rattle.arrival.proofs.next_state.Statement.{statement}
-use Rattle.arrival.proofs.next_state.Tie as tie
+use Rattle.plan.proofs.next_state.Statement.{statement}
+use Rattle.plan.proofs.next_state.Tie as tie
 
 wrapping-add-u32-requires : tie.Need-wrapping-add-u32-requires
 wrapping-add-u32-requires c κs = search needs

@@ -1,7 +1,7 @@
--- `arrival::leave` meets its contract: each arm knows the values of the definition's tests. Assumes nothing.
+-- `plan::leave` meets its contract: each arm knows the values of the definition's tests. Assumes nothing.
 use borrow.Author.Tests.{eq-eqb, ne-eqb}
-use Rattle.arrival.proofs.leave.Statement.{statement}
-use Rattle.arrival.proofs.leave.Tie as tie
+use Rattle.plan.proofs.leave.Statement.{statement}
+use Rattle.plan.proofs.leave.Tie as tie
 
 returns : tie.Need-returns
 returns c = rw (eq-eqb _ _ (c .if1 .taken))
