@@ -20,8 +20,9 @@ use Rattle.model.specs.declared.Lengths.{Lengths}
 use Rattle.model.specs.Range.{lengthsOf, lengthsOk}
 use Rattle.model.specs.Calls.{freshOf, cycleOf, waitingOf}
 use Rattle.records.specs.declared.OperationRecord.{OperationRecord}
-use Rattle.records.specs.Records.{operationOf, operationWritten, setupOf}
-use Rattle.records.specs.declared.SetupRecord.{SetupRecord}
+use Rattle.records.specs.Records.{operationOf, operationWritten}
+use Rattle.setuprecord.specs.SetupRecord.{setupOf}
+use Rattle.setuprecord.specs.declared.SetupRecord.{SetupRecord}
 use Rattle.interface.specs.declared.State.{State}
 use Rattle.interface.specs.declared.Started.{Started}
 use Rattle.interface.specs.declared.Cycled.{Cycled}

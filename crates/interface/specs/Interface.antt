@@ -20,8 +20,8 @@ use Rattle.model.specs.Lent as room
 use Rattle.model.specs.Range.{lengthsOf, lengthsOk}
 use Rattle.model.specs.Calls.{freshOf, cycleOf, waitingOf}
 use Rattle.records.specs.declared.OperationRecord.{OperationRecord}
-use Rattle.records.specs.declared.SetupRecord.{SetupRecord}
-use Rattle.records.specs.Records.{idleKind, readKind, writeKind, operationFrom, operationWritten}
+use Rattle.setuprecord.specs.declared.SetupRecord.{SetupRecord}
+use Rattle.records.specs.Records.{idleRecordKind, readRecordKind, writeRecordKind, operationFrom, operationWritten}
 use Rattle.interface.specs.declared.Checked.{Checked}
 use Rattle.interface.specs.declared.Lent.{Lent}
 use Rattle.interface.specs.declared.State.{State}
@@ -159,9 +159,9 @@ abbrev pub numbers : ℕ → ℕ → ℕ → Operation
 numbers kind address word = record { kind = kind; address = address; word = word }
 
 abbrev pub operationOut : port.Operation → Operation
-operationOut Idle = numbers idleKind 0 0
-operationOut (Read a) = numbers readKind (a .0) 0
-operationOut (Write a w) = numbers writeKind (a .0) w
+operationOut Idle = numbers idleRecordKind 0 0
+operationOut (Read a) = numbers readRecordKind (a .0) 0
+operationOut (Write a w) = numbers writeRecordKind (a .0) w
 
 -- a bad record is handed out as idle
 abbrev pub operationRead : OperationRecord → Recorded

@@ -3,7 +3,8 @@ ghost use mathlib.Core.Path.{_≡_};
 ghost use Rattle.setup.specs.Setup.{Ranges, checkedOf};
 ghost use Rattle.setup.specs.declared.Checked.the-variants.{Refused};
 ghost use Rattle.model.specs.Lent.{lent};
-ghost use Rattle.records.specs.Records.{setupOf, setupWritten, operationOf};
+ghost use Rattle.records.specs.Records.{operationOf};
+ghost use Rattle.setuprecord.specs.SetupRecord.{setupOf, setupWritten};
 ghost use Rattle.interface.specs.Interface.{noSetup, checkedOut, lentBy, lengthsIn, markOk, stateIn, markOut, stateOut, startedOut, startOut, operationOut, deliveryOut, wordOut, replyOut, cycledOut, refusedBy, badMark, offered, cycleOut, waitingOut, setupRead, operationRead, operationWrittenOut};
 use setup::Setup;
 
@@ -390,7 +391,7 @@ pub extern "C" fn ridkostan_waiting(
 pub extern "C" fn ridkostan_read_setup(bytes: &[u8]) -> Checked
     ensures { λ r. ⌜ r ≡ setupRead (setupOf (now (bytes .entry))) ⌝ }
 {
-    let records::SetupRecord::Good(setup) = records::read_setup(bytes) else {
+    let setuprecord::SetupRecord::Good(setup) = setuprecord::read_setup(bytes) else {
         return refuse_setup();
     };
     Checked {
@@ -404,7 +405,7 @@ pub extern "C" fn ridkostan_read_setup(bytes: &[u8]) -> Checked
 pub extern "C" fn ridkostan_write_setup(setup: Setup, room: &mut [u8]) -> u32
     ensures { λ r. ⌜ (r, now (room .exit)) ≡ setupWritten setup (now (room .entry)) ⌝ }
 {
-    records::write_setup(setup, room)
+    setuprecord::write_setup(setup, room)
 }
 
 // The three numbers of an operation.
