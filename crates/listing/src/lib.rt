@@ -24,7 +24,8 @@ fn put_field(table: &[u8; PAIRS], out: &mut [u8], at: usize, n: u64) -> usize
 // Puts a delivery at a place, and answers the place after it.
 fn put_delivery(table: &[u8; PAIRS], out: &mut [u8], at: usize, d: Delivery) -> usize
     requires { ⌜ (now table ≡ pairTable) × (at + wordMost ≤ length (now out)) ⌝ }
-    ensures { λ r. ⌜ (now (out .exit) ≡ stored (now (out .entry)) at (deliveryText d)) × (r ≡ at + length (deliveryText d)) × (r ≤ at + wordMost) ⌝ }
+    ensures { λ r. ⌜ (now (out .exit) ≡ stored (now (out .entry)) at (deliveryText d))
+        × (r ≡ at + length (deliveryText d)) × (r ≤ at + wordMost) ⌝ }
 {
     match d {
         Delivery::None => put_byte(out, at, b'-'),
@@ -43,7 +44,8 @@ pub fn put_line(
     d: Delivery,
 ) -> usize
     requires { ⌜ (now table ≡ pairTable) × (at + lineMost ≤ length (now out)) ⌝ }
-    ensures { λ r. ⌜ (now (out .exit) ≡ stored (now (out .entry)) at (lineOf number answer d)) × (r ≡ at + length (lineOf number answer d)) × (r ≤ at + lineMost) ⌝ }
+    ensures { λ r. ⌜ (now (out .exit) ≡ stored (now (out .entry)) at (lineOf number answer d))
+        × (r ≡ at + length (lineOf number answer d)) × (r ≤ at + lineMost) ⌝ }
 {
     let answer_number = answer as u64;
     let second = put_field(table, out, at, number);

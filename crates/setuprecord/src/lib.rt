@@ -81,7 +81,8 @@ pub fn read_setup(bytes: &[u8]) -> SetupRecord
 // Stores K, delta and C, and the two zero bytes after them.
 fn put_middle(room: &mut [u8], k: u16, delta: u16, c: u16)
     requires { ⌜ length (now room) ≡ setupSize ⌝ }
-    ensures { λ _. ⌜ now (room .exit) ≡ sets (now (room .entry)) 4 (bytesOf 2 k ++ bytesOf 2 delta ++ bytesOf 2 c ++ zeros 2) ⌝ }
+    ensures { λ _. ⌜ now (room .exit)
+        ≡ sets (now (room .entry)) 4 (bytesOf 2 k ++ bytesOf 2 delta ++ bytesOf 2 c ++ zeros 2) ⌝ }
 {
     put_two(room, K_AT, k as u32);
     put_two(room, DELTA_AT, delta as u32);
