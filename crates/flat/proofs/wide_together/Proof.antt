@@ -1,12 +1,12 @@
--- `flat::joined_wide` meets its contract. The loop's invariant: o is at least each of the j numbers. Assumes nothing.
+-- `flat::wide_together` meets its contract. The loop's invariant: o is at least each of the j numbers. Assumes nothing.
 use borrow.Author.Needs.{needs}
 use Prim.Native.Nat.{_-_, _≤_}
 use native.Mathlib.Nat.{not-suc-le-zero}
 use native.Mathlib.Omega.{arith}
 use Rattle.flat.specs.Flat.{wide, UpTo}
 use Rattle.flat.proofs.Flat.{upto-one}
-use Rattle.flat.proofs.joined_wide.Statement.{statement}
-use Rattle.flat.proofs.joined_wide.Tie as tie
+use Rattle.flat.proofs.wide_together.Statement.{statement}
+use Rattle.flat.proofs.wide_together.Tie as tie
 
 abbrev Inv-loop : tie.InvT-loop
 Inv-loop part at o₀ j₀ o j = (j ≤ wide) × UpTo o part at j
@@ -38,8 +38,8 @@ loop-again c = (omega arith, search upto-one)
 returns : tie.Need-returns Inv-loop μ-loop
 returns c = λ k h. c .before .loop .inv .1 k (omega arith)
 
-pub joined-wide-spec : {M : Type 1} → statement M
-joined-wide-spec =
+pub wide-together-spec : {M : Type 1} → statement M
+wide-together-spec =
     tie.close
     (tie.spec
     Inv-loop

@@ -1,11 +1,11 @@
--- `lanes::joined_pairs` meets its contract. Each loop's invariant: the numbers of the first i pairs are put together. Assumes nothing.
+-- `lanes::pairs_together` meets its contract. Each loop's invariant: the numbers of the first i pairs are put together. Assumes nothing.
 use borrow.Author.Needs.{needs}
 use Prim.Native.Nat.{_-_, _≤_}
 use native.Mathlib.Omega.{arith}
 use Rattle.lanes.specs.Lanes.{TwoTogether}
 use Rattle.lanes.proofs.Lanes.{pairs-first, pairs-one, pairs-more, pairs-end}
-use Rattle.lanes.proofs.joined_pairs.Statement.{statement}
-use Rattle.lanes.proofs.joined_pairs.Tie as tie
+use Rattle.lanes.proofs.pairs_together.Statement.{statement}
+use Rattle.lanes.proofs.pairs_together.Tie as tie
 
 abbrev Inv-loop : tie.InvT-loop
 Inv-loop part n first₀ second₀ i₀ end first second i = (i ≤ n) × TwoTogether i part first second
@@ -25,20 +25,20 @@ steps-end-requires c κs = search needs
 loop-holds : tie.Need-loop-holds Inv-loop μ-loop Inv-loop2 μ-loop2
 loop-holds c = (omega arith, search pairs-first)
 
-mul-joined-apart : tie.Need-mul-joined-apart Inv-loop μ-loop Inv-loop2 μ-loop2
-mul-joined-apart c = search needs
+mul-round-together : tie.Need-mul-round-together Inv-loop μ-loop Inv-loop2 μ-loop2
+mul-round-together c = search needs
 
-joined-apart-requires : tie.Need-joined-apart-requires Inv-loop μ-loop Inv-loop2 μ-loop2
-joined-apart-requires c κs = search needs
+round-together-requires : tie.Need-round-together-requires Inv-loop μ-loop Inv-loop2 μ-loop2
+round-together-requires c κs = search needs
 
-mul-joined-apart-2 : tie.Need-mul-joined-apart-2 Inv-loop μ-loop Inv-loop2 μ-loop2
-mul-joined-apart-2 c = search needs
+mul-round-together-2 : tie.Need-mul-round-together-2 Inv-loop μ-loop Inv-loop2 μ-loop2
+mul-round-together-2 c = search needs
 
-add-joined-apart : tie.Need-add-joined-apart Inv-loop μ-loop Inv-loop2 μ-loop2
-add-joined-apart c = search needs
+add-round-together : tie.Need-add-round-together Inv-loop μ-loop Inv-loop2 μ-loop2
+add-round-together c = search needs
 
-joined-apart-requires-2 : tie.Need-joined-apart-requires-2 Inv-loop μ-loop Inv-loop2 μ-loop2
-joined-apart-requires-2 c κs = search needs
+round-together-requires-2 : tie.Need-round-together-requires-2 Inv-loop μ-loop Inv-loop2 μ-loop2
+round-together-requires-2 c κs = search needs
 
 add-i : tie.Need-add-i Inv-loop μ-loop Inv-loop2 μ-loop2
 add-i c = search needs
@@ -85,8 +85,8 @@ loop2-again c = (omega arith, search pairs-one)
 returns : tie.Need-returns Inv-loop μ-loop Inv-loop2 μ-loop2
 returns c = search pairs-end
 
-pub joined-pairs-spec : {M : Type 1} → statement M
-joined-pairs-spec =
+pub pairs-together-spec : {M : Type 1} → statement M
+pairs-together-spec =
     tie.close
     (tie.spec
     Inv-loop
@@ -95,11 +95,11 @@ joined-pairs-spec =
     μ-loop2
     steps-end-requires
     loop-holds
-    mul-joined-apart
-    joined-apart-requires
-    mul-joined-apart-2
-    add-joined-apart
-    joined-apart-requires-2
+    mul-round-together
+    round-together-requires
+    mul-round-together-2
+    add-round-together
+    round-together-requires-2
     add-i
     loop-less
     loop-again

@@ -1,11 +1,11 @@
--- `lanes::joined_apart` meets its contract. The loop's invariant: o is at least each of the j numbers. Assumes nothing.
+-- `lanes::round_together` meets its contract. The loop's invariant: o is at least each of the j numbers. Assumes nothing.
 use borrow.Author.Needs.{needs}
 use Prim.Native.Nat.{_-_, _≤_}
 use native.Mathlib.Omega.{arith}
 use Rattle.lanes.specs.Lanes.{round, Apart}
 use Rattle.lanes.proofs.Lanes.{apart-none, apart-one, apart-done, apart-span}
-use Rattle.lanes.proofs.joined_apart.Statement.{statement}
-use Rattle.lanes.proofs.joined_apart.Tie as tie
+use Rattle.lanes.proofs.round_together.Statement.{statement}
+use Rattle.lanes.proofs.round_together.Tie as tie
 
 abbrev Inv-loop : tie.InvT-loop
 Inv-loop part at step o₀ j₀ o j = (j ≤ round) × Apart at step j part o
@@ -40,8 +40,8 @@ loop-again c = (omega arith, search apart-one)
 returns : tie.Need-returns Inv-loop μ-loop
 returns c = search apart-done
 
-pub joined-apart-spec : {M : Type 1} → statement M
-joined-apart-spec =
+pub round-together-spec : {M : Type 1} → statement M
+round-together-spec =
     tie.close
     (tie.spec
     Inv-loop

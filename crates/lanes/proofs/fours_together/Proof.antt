@@ -1,11 +1,11 @@
--- `lanes::joined_fours` meets its contract. Each loop's invariant: the numbers of the first i fours are put together. Assumes nothing.
+-- `lanes::fours_together` meets its contract. Each loop's invariant: the numbers of the first i fours are put together. Assumes nothing.
 use borrow.Author.Needs.{needs}
 use Prim.Native.Nat.{_-_, _≤_}
 use native.Mathlib.Omega.{arith}
 use Rattle.lanes.specs.Lanes.{ThreeTogether}
 use Rattle.lanes.proofs.Lanes.{fours-first, fours-one, fours-more, fours-end}
-use Rattle.lanes.proofs.joined_fours.Statement.{statement}
-use Rattle.lanes.proofs.joined_fours.Tie as tie
+use Rattle.lanes.proofs.fours_together.Statement.{statement}
+use Rattle.lanes.proofs.fours_together.Tie as tie
 
 abbrev Inv-loop : tie.InvT-loop
 Inv-loop part n first₀ second₀ third₀ i₀ end first second third i = (i ≤ n) × ThreeTogether i part first second third
@@ -25,29 +25,29 @@ steps-end-requires c κs = search needs
 loop-holds : tie.Need-loop-holds Inv-loop μ-loop Inv-loop2 μ-loop2
 loop-holds c = (omega arith, search fours-first)
 
-mul-joined-apart : tie.Need-mul-joined-apart Inv-loop μ-loop Inv-loop2 μ-loop2
-mul-joined-apart c = search needs
+mul-round-together : tie.Need-mul-round-together Inv-loop μ-loop Inv-loop2 μ-loop2
+mul-round-together c = search needs
 
-joined-apart-requires : tie.Need-joined-apart-requires Inv-loop μ-loop Inv-loop2 μ-loop2
-joined-apart-requires c κs = search needs
+round-together-requires : tie.Need-round-together-requires Inv-loop μ-loop Inv-loop2 μ-loop2
+round-together-requires c κs = search needs
 
-mul-joined-apart-2 : tie.Need-mul-joined-apart-2 Inv-loop μ-loop Inv-loop2 μ-loop2
-mul-joined-apart-2 c = search needs
+mul-round-together-2 : tie.Need-mul-round-together-2 Inv-loop μ-loop Inv-loop2 μ-loop2
+mul-round-together-2 c = search needs
 
-add-joined-apart : tie.Need-add-joined-apart Inv-loop μ-loop Inv-loop2 μ-loop2
-add-joined-apart c = search needs
+add-round-together : tie.Need-add-round-together Inv-loop μ-loop Inv-loop2 μ-loop2
+add-round-together c = search needs
 
-joined-apart-requires-2 : tie.Need-joined-apart-requires-2 Inv-loop μ-loop Inv-loop2 μ-loop2
-joined-apart-requires-2 c κs = search needs
+round-together-requires-2 : tie.Need-round-together-requires-2 Inv-loop μ-loop Inv-loop2 μ-loop2
+round-together-requires-2 c κs = search needs
 
-mul-joined-apart-3 : tie.Need-mul-joined-apart-3 Inv-loop μ-loop Inv-loop2 μ-loop2
-mul-joined-apart-3 c = search needs
+mul-round-together-3 : tie.Need-mul-round-together-3 Inv-loop μ-loop Inv-loop2 μ-loop2
+mul-round-together-3 c = search needs
 
-add-joined-apart-2 : tie.Need-add-joined-apart-2 Inv-loop μ-loop Inv-loop2 μ-loop2
-add-joined-apart-2 c = search needs
+add-round-together-2 : tie.Need-add-round-together-2 Inv-loop μ-loop Inv-loop2 μ-loop2
+add-round-together-2 c = search needs
 
-joined-apart-requires-3 : tie.Need-joined-apart-requires-3 Inv-loop μ-loop Inv-loop2 μ-loop2
-joined-apart-requires-3 c κs = search needs
+round-together-requires-3 : tie.Need-round-together-requires-3 Inv-loop μ-loop Inv-loop2 μ-loop2
+round-together-requires-3 c κs = search needs
 
 add-i : tie.Need-add-i Inv-loop μ-loop Inv-loop2 μ-loop2
 add-i c = search needs
@@ -106,8 +106,8 @@ loop2-again c = (omega arith, search fours-one)
 returns : tie.Need-returns Inv-loop μ-loop Inv-loop2 μ-loop2
 returns c = search fours-end
 
-pub joined-fours-spec : {M : Type 1} → statement M
-joined-fours-spec =
+pub fours-together-spec : {M : Type 1} → statement M
+fours-together-spec =
     tie.close
     (tie.spec
     Inv-loop
@@ -116,14 +116,14 @@ joined-fours-spec =
     μ-loop2
     steps-end-requires
     loop-holds
-    mul-joined-apart
-    joined-apart-requires
-    mul-joined-apart-2
-    add-joined-apart
-    joined-apart-requires-2
-    mul-joined-apart-3
-    add-joined-apart-2
-    joined-apart-requires-3
+    mul-round-together
+    round-together-requires
+    mul-round-together-2
+    add-round-together
+    round-together-requires-2
+    mul-round-together-3
+    add-round-together-2
+    round-together-requires-3
     add-i
     loop-less
     loop-again

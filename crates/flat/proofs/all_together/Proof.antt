@@ -1,4 +1,4 @@
--- `flat::joined_all` meets its contract. Each loop's invariant: o is at least each of the first i numbers. Assumes nothing.
+-- `flat::all_together` meets its contract. Each loop's invariant: o is at least each of the first i numbers. Assumes nothing.
 use borrow.Author.Needs.{needs}
 use Prim.Native.Nat.{_-_, _≤_}
 use mathlib.Core.Path.{_≡_}
@@ -7,8 +7,8 @@ use native.Mathlib.Nat.{not-suc-le-zero}
 use native.Mathlib.Omega.{arith}
 use Rattle.flat.specs.Flat.{UpTo}
 use Rattle.flat.proofs.Flat.{upto-more, upto-next}
-use Rattle.flat.proofs.joined_all.Statement.{statement}
-use Rattle.flat.proofs.joined_all.Tie as tie
+use Rattle.flat.proofs.all_together.Statement.{statement}
+use Rattle.flat.proofs.all_together.Tie as tie
 
 abbrev Inv-loop : tie.InvT-loop
 Inv-loop part n o₀ i₀ wide-end o i = (n ≡ length part) × (i ≤ n) × UpTo o part 0 i
@@ -35,9 +35,9 @@ steps-end-requires c κs = search needs
 loop-holds : tie.Need-loop-holds Inv-loop μ-loop Inv-loop2 μ-loop2 Inv-loop3 μ-loop3
 loop-holds c = (omega arith, omega arith, λ k h. absurd (not-suc-le-zero h))
 
-joined-wide-requires :
-    tie.Need-joined-wide-requires Inv-loop μ-loop Inv-loop2 μ-loop2 Inv-loop3 μ-loop3
-joined-wide-requires c κs = search needs
+wide-together-requires :
+    tie.Need-wide-together-requires Inv-loop μ-loop Inv-loop2 μ-loop2 Inv-loop3 μ-loop3
+wide-together-requires c κs = search needs
 
 add-i : tie.Need-add-i Inv-loop μ-loop Inv-loop2 μ-loop2 Inv-loop3 μ-loop3
 add-i c = search needs
@@ -55,8 +55,8 @@ steps-end-requires-2 c κs = search needs
 loop2-holds : tie.Need-loop2-holds Inv-loop μ-loop Inv-loop2 μ-loop2 Inv-loop3 μ-loop3
 loop2-holds c = search needs
 
-joined-requires : tie.Need-joined-requires Inv-loop μ-loop Inv-loop2 μ-loop2 Inv-loop3 μ-loop3
-joined-requires c κs = search needs
+block-together-requires : tie.Need-block-together-requires Inv-loop μ-loop Inv-loop2 μ-loop2 Inv-loop3 μ-loop3
+block-together-requires c κs = search needs
 
 add-i-2 : tie.Need-add-i-2 Inv-loop μ-loop Inv-loop2 μ-loop2 Inv-loop3 μ-loop3
 add-i-2 c = search needs
@@ -89,8 +89,8 @@ loop3-again c = (omega arith, omega arith, search upto-next)
 returns : tie.Need-returns Inv-loop μ-loop Inv-loop2 μ-loop2 Inv-loop3 μ-loop3
 returns c = λ k h. c .before .loop3 .inv .2 k (omega arith)
 
-pub joined-all-spec : {M : Type 1} → statement M
-joined-all-spec =
+pub all-together-spec : {M : Type 1} → statement M
+all-together-spec =
     tie.close
     (tie.spec
     Inv-loop
@@ -101,13 +101,13 @@ joined-all-spec =
     μ-loop3
     steps-end-requires
     loop-holds
-    joined-wide-requires
+    wide-together-requires
     add-i
     loop-less
     loop-again
     steps-end-requires-2
     loop2-holds
-    joined-requires
+    block-together-requires
     add-i-2
     loop2-less
     loop2-again
