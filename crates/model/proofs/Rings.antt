@@ -11,7 +11,7 @@ use lib.Seq.{getD-set-same, getD-set-other}
 use borrow.Author.Tests.{lt-ltb, le-ltb}
 use Rattle.setup.specs.Choice.{pick}
 use Rattle.model.specs.Lent.{oldestOf, countOf, putHead, onward, back}
-use Rattle.model.proofs.Tests.{below-or-not, same-or-not}
+use Rattle.model.proofs.Tests.{below-or-not}
 
 ------------------------------------------------------------------------
 -- Places that go round
@@ -84,9 +84,6 @@ parts-differ b b' k i j h l n e =
     (λ w. omega (arith, part-within b b' k w))
     (λ w. ⊎-elim (λ v. omega (arith, part-within b' b k v)) (λ v. n (omega arith)) (below-or-not b' b))
     (below-or-not b b')
-
-pub part-same : (b b' k i j : ℕ) → i < k → j < k → b * k + i ≡ b' * k + j → b ≡ b'
-part-same b b' k i j h l e = ⊎-elim (λ w. w) (λ w. absurd (parts-differ b b' k i j h l w e)) (same-or-not b b')
 
 ------------------------------------------------------------------------
 -- Heads

@@ -10,7 +10,7 @@ use Rattle.setup.specs.declared.Setup.{Setup}
 use Rattle.setup.specs.declared.Checked.{Checked}
 use Rattle.setup.specs.declared.Checked.the-variants.{Good, Refused}
 use Rattle.setup.specs.Choice.{pick}
-use Rattle.setup.specs.Setup.{sizesOk, restOk, inRange, Sizes, Ranges, withDefaults, checkedOf, wordsOf, banksOf}
+use Rattle.setup.specs.Setup.{sizesOk, restOk, inRange, Sizes, Ranges, withDefaults, checkedOf, banksOf}
 
 pub and-l : (x y : Bool) → x && y ≡ true → x ≡ true
 and-l true y h = refl
@@ -57,9 +57,6 @@ good-sizes s f r e h = good-ranges s f r e h .sizes
 
 ------------------------------------------------------------------------
 -- How large the lent slices can be
-
-pub words-most : (s : Setup) → Sizes s → wordsOf s ≤ 1048576
-words-most s z = pow-mono {j = 20} (z .a-most)
 
 pub banks-most : (s : Setup) → Sizes s → banksOf s ≤ 64
 banks-most s z = pow-mono {j = 6} (z .s-most)
