@@ -4,7 +4,8 @@ ghost use Prim.Native.Nat.{_+_, _*_, _^_, _≤_, _<_};
 ghost use lib.ListN.{length};
 ghost use Rattle.io.specs.Counts.{Counts};
 ghost use Rattle.model.specs.Lent.{lent};
-ghost use Rattle.listing.specs.Listing.{pairTable, lineMost};
+ghost use Rattle.decimal.specs.Decimal.{pairTable};
+ghost use Rattle.listing.specs.Listing.{lineMost};
 ghost use Rattle.replay.specs.Replay.{recordsIn, zerosFor, wholeRoom, Opened};
 ghost use Rattle.cyclerun.specs.Parts.{partMost};
 use libc::STDIN_FILENO;
@@ -31,7 +32,7 @@ fn run_part(
     rows: &mut [u32],
     entries: &mut [u32],
     heads: &mut [u32],
-    table: &[u8; listing::PAIRS],
+    table: &[u8; decimal::PAIRS],
     input: &mut [u8],
     out: &mut [u8],
 ) -> Run
@@ -68,7 +69,7 @@ fn run_all(
     rows: &mut [u32],
     entries: &mut [u32],
     heads: &mut [u32],
-    table: &[u8; listing::PAIRS],
+    table: &[u8; decimal::PAIRS],
     input: &mut [u8],
     out: &mut [u8],
 )
@@ -89,7 +90,7 @@ fn cut(
     rows: &mut [u32],
     entries: &mut [u32],
     heads: &mut [u32],
-    table: &[u8; listing::PAIRS],
+    table: &[u8; decimal::PAIRS],
     input: &mut [u8],
     out: &mut [u8],
 )
@@ -122,7 +123,7 @@ fn start(s: Setup)
     let mut heads = [0u32; replay::HEAD_NUMBERS];
     let mut input = [0u8; INPUT_BYTES];
     let mut out = [0u8; OUTPUT_BYTES];
-    let table = listing::pairs();
+    let table = decimal::pairs();
     cut(
         s,
         &mut memory,
@@ -150,7 +151,7 @@ fn read_setup(file: &mut [u8]) -> usize
 
 fn main() {
     // One byte more than a setup has, so that a file that is too long is seen.
-    let mut file = [0u8; records::SETUP_BYTES + 1];
+    let mut file = [0u8; setuprecord::SETUP_BYTES + 1];
     let n = read_setup(&mut file);
     let opening = replay::open(&file[..n]);
     match opening {

@@ -15,8 +15,8 @@ use Rattle.rings.proofs.Rings.{onward-either, onward-none, onward-below, part-w
 use Rattle.model.proofs.Range.{head-ok, head-oldest, head-count, buffer-ok, buffer-head, buffers-each}
 use Rattle.model.proofs.Range as range
 use Rattle.choice.proofs.Tests.{pick-either, below-or-not}
-use Rattle.lanes.specs.Lanes.{pairsBelow, pairsTold, foursBelow}
-use Rattle.lanes.specs.declared.Told.{Told}
+use Rattle.lanes.specs.Lanes.{pairsBelow, pairsLook, foursBelow}
+use Rattle.lanes.specs.declared.Look.{Look}
 use lib.Bits.{bitOr}
 use Rattle.flat.proofs.Flat.{le-or-l, le-or-r}
 use Rattle.lanes.proofs.Lanes.{pairs-each, pairs-every, fours-each}
@@ -191,18 +191,18 @@ module _ (s : Setup) (entries heads : List ℕ) (k banks : ℕ) (ek : k ≡ s .k
   heads-each : (m : ℕ) → m ≤ k + 1 → pairsBelow k m heads banks ≡ true → (b : ℕ) → b < banksOf s → headOk s heads b ≡ true
   heads-each m n h b l = let p = pairs-each k m heads banks h b (omega arith) in head-ok s heads b (omega arith) (omega arith)
 
-  module _ (r : Told) (e : r ≡ pairsTold k (k + 1) heads banks) where
+  module _ (r : Look) (e : r ≡ pairsLook k (k + 1) heads banks) where
     -- nothing waits
     pub told-none : r .none ≡ true → true ≡ buffersOk s (buffersIn entries heads) (banksOf s)
     told-none h =
-        let z : pairsBelow k 1 heads banks ≡ true = sym (ap (λ (x : Told). x .none) e) ∙ h in
+        let z : pairsBelow k 1 heads banks ≡ true = sym (ap (λ (x : Look). x .none) e) ∙ h in
         sym (range.buffers-all s (buffersIn entries heads) (banksOf s) (λ b l.
         let p = pairs-each k 1 heads banks z b (omega arith) in
         buffer-ok s (buffersIn entries heads) b (heads-each 1 (omega arith) z b l) (λ i g. absurd (omega arith))))
 
     -- every head is in range
     pub told-below : r .below ≡ true → Room s (buffersIn entries heads) → HeadsIn s (buffersIn entries heads)
-    told-below h room = record { room = room; heads-ok = heads-each (k + 1) (omega arith) (sym (ap (λ (x : Told). x .below) e) ∙ h) }
+    told-below h room = record { room = room; heads-ok = heads-each (k + 1) (omega arith) (sym (ap (λ (x : Look). x .below) e) ∙ h) }
 
     -- one is not
     pub told-out : r .below ≡ false → false ≡ buffersOk s (buffersIn entries heads) (banksOf s)
@@ -217,7 +217,7 @@ module _ (s : Setup) (entries heads : List ℕ) (k banks : ℕ) (ek : k ≡ s .k
             let c = head-oldest s heads b o in
             let d = head-count s heads b o in
             (omega arith, omega arith)) in
-            let z : pairsBelow k (k + 1) heads banks ≡ false = sym (ap (λ (x : Told). x .below) e) ∙ h in
+            let z : pairsBelow k (k + 1) heads banks ≡ false = sym (ap (λ (x : Look). x .below) e) ∙ h in
             said-no (sym z ∙ y)
 
 -- every place of the entry room is in range

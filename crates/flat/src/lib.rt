@@ -55,7 +55,7 @@ pub fn steps_end(n: usize, w: usize) -> usize
 }
 
 // At least each number of a block from a place on: their bits put together. The last steps of a part are by blocks.
-fn joined(part: &[u32], at: usize) -> u32
+fn block_together(part: &[u32], at: usize) -> u32
     requires { ⌜ at + block ≤ length (now part) ⌝ }
     ensures { λ r. ⌜ UpTo r (now (part .entry)) at block ⌝ }
 {
@@ -69,7 +69,7 @@ fn joined(part: &[u32], at: usize) -> u32
 }
 
 // The same for four blocks at a time: it spares a sixth of the instructions of a long part.
-fn joined_wide(part: &[u32], at: usize) -> u32
+fn wide_together(part: &[u32], at: usize) -> u32
     requires { ⌜ at + wide ≤ length (now part) ⌝ }
     ensures { λ r. ⌜ UpTo r (now (part .entry)) at wide ⌝ }
 {
@@ -83,7 +83,7 @@ fn joined_wide(part: &[u32], at: usize) -> u32
 }
 
 // At least each number.
-fn joined_all(part: &[u32]) -> u32
+fn all_together(part: &[u32]) -> u32
     ensures { λ r. ⌜ UpTo r (now (part .entry)) 0 (length (now (part .entry))) ⌝ }
 {
     let n = part.len();
@@ -91,12 +91,12 @@ fn joined_all(part: &[u32]) -> u32
     let mut i = 0;
     let wide_end = steps_end(n, WIDE);
     while i < wide_end {
-        o = o | joined_wide(part, i);
+        o = o | wide_together(part, i);
         i = i + WIDE;
     }
     let end = steps_end(n, BLOCK);
     while i < end {
-        o = o | joined(part, i);
+        o = o | block_together(part, i);
         i = i + BLOCK;
     }
     while i < n {
@@ -123,7 +123,7 @@ fn each_below(part: &[u32], bound: u32) -> bool
 pub fn all_below(part: &[u32], bound: u32) -> bool
     ensures { λ r. ⌜ r ≡ allBelow bound (now (part .entry)) ⌝ }
 {
-    if joined_all(part) < bound {
+    if all_together(part) < bound {
         return true;
     }
     each_below(part, bound)

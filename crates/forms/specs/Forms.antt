@@ -16,8 +16,8 @@ use Rattle.model.specs.declared.State as kept
 use Rattle.model.specs.declared.Cycled as passing
 use Rattle.model.specs.declared.Started as starting
 use Rattle.records.specs.declared.OperationRecord.{OperationRecord}
-use Rattle.records.specs.declared.SetupRecord.{SetupRecord}
-use Rattle.records.specs.Records.{idleKind, readKind, writeKind, operationFrom}
+use Rattle.setuprecord.specs.declared.SetupRecord.{SetupRecord}
+use Rattle.records.specs.Records.{idleRecordKind, readRecordKind, writeRecordKind, operationFrom}
 use Rattle.forms.specs.declared.Checked.{Checked}
 use Rattle.forms.specs.declared.Lent.{Lent}
 use Rattle.forms.specs.declared.State.{State}
@@ -110,9 +110,9 @@ abbrev pub numbers : ℕ → ℕ → ℕ → Operation
 numbers kind address word = record { kind = kind; address = address; word = word }
 
 abbrev pub operationOut : port.Operation → Operation
-operationOut Idle = numbers idleKind 0 0
-operationOut (Read a) = numbers readKind (a .0) 0
-operationOut (Write a w) = numbers writeKind (a .0) w
+operationOut Idle = numbers idleRecordKind 0 0
+operationOut (Read a) = numbers readRecordKind (a .0) 0
+operationOut (Write a w) = numbers writeRecordKind (a .0) w
 
 -- what C asks of a cycle: an operation that is none comes first, then a mark out of range
 unfoldable pub askedIn : OperationRecord → State → Asked

@@ -317,12 +317,12 @@ fn operation_out(op: port::Operation) -> Operation
 }
 
 // What a setup record holds: the setup, or refusal 1.
-pub fn setup_read(held: records::SetupRecord) -> Checked
+pub fn setup_read(held: setuprecord::SetupRecord) -> Checked
     ensures { λ r. ⌜ r ≡ setupRead held ⌝ }
 {
     match held {
-        records::SetupRecord::Good(s) => checked_out(setup::Checked::Good(s)),
-        records::SetupRecord::Refused => checked_out(setup::Checked::Refused),
+        setuprecord::SetupRecord::Good(s) => checked_out(setup::Checked::Good(s)),
+        setuprecord::SetupRecord::Refused => checked_out(setup::Checked::Refused),
     }
 }
 

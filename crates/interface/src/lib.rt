@@ -2,7 +2,8 @@
 ghost use mathlib.Core.Path.{_≡_};
 ghost use Rattle.setup.specs.Setup.{checkedOf};
 ghost use Rattle.model.specs.Lent.{lent};
-ghost use Rattle.records.specs.Records.{setupOf, setupWritten, operationOf};
+ghost use Rattle.records.specs.Records.{operationOf};
+ghost use Rattle.setuprecord.specs.SetupRecord.{setupOf, setupWritten};
 ghost use Rattle.forms.specs.Forms.{checkedOut, refusedBy, setupRead, operationRead};
 ghost use Rattle.interface.specs.Interface.{lengthsIn, startOut, badMark, cycleOut, waitingOut, operationWrittenOut};
 use forms::Asked;
@@ -150,7 +151,7 @@ pub extern "C" fn ridkostan_waiting(
 pub extern "C" fn ridkostan_read_setup(bytes: &[u8]) -> Checked
     ensures { λ r. ⌜ r ≡ setupRead (setupOf (now (bytes .entry))) ⌝ }
 {
-    forms::setup_read(records::read_setup(bytes))
+    forms::setup_read(setuprecord::read_setup(bytes))
 }
 
 // Writes a setup over the whole room.
@@ -158,7 +159,7 @@ pub extern "C" fn ridkostan_read_setup(bytes: &[u8]) -> Checked
 pub extern "C" fn ridkostan_write_setup(setup: Setup, room: &mut [u8]) -> u32
     ensures { λ r. ⌜ (r, now (room .exit)) ≡ setupWritten setup (now (room .entry)) ⌝ }
 {
-    records::write_setup(setup, room)
+    setuprecord::write_setup(setup, room)
 }
 
 // The operation in a record.

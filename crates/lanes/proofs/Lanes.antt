@@ -11,8 +11,8 @@ use lib.ListN.{getD}
 use borrow.Author.Tests.{lt-ltb, le-ltb, ltb-true, eq-eqb, eqb-true}
 use Rattle.flat.proofs.Below.{said-no, and-end, and-yes, below-more, below-out, below-all, each-below, all-below}
 use Rattle.flat.proofs.Flat.{or-one, or-more}
-use Rattle.lanes.specs.Lanes.{round, pairsBelow, pairsTold, foursBelow, Apart, TwoTogether, ThreeTogether}
-use Rattle.lanes.specs.declared.Told.{Told}
+use Rattle.lanes.specs.Lanes.{round, pairsBelow, pairsLook, foursBelow, Apart, TwoTogether, ThreeTogether}
+use Rattle.lanes.specs.declared.Look.{Look}
 
 ------------------------------------------------------------------------
 -- Numbers put together by or
@@ -165,14 +165,14 @@ module _ (a b : ℕ) (l : List ℕ) where
       all-below (pairIn a b l) (pairsBelow a b l) (λ j. refl) refl n (λ i g.
       rw (lt-ltb (getD l (2 * i) 0) a (h i g .0), lt-ltb (getD l (2 * i + 1) 0) b (h i g .1)))
 
--- what a look at pairs told, where x and y are their numbers put together
-abbrev told : Bool → Bool → Told
-told below none = record { below = below; none = none }
+-- a look at pairs, where x and y are their numbers put together
+abbrev look : Bool → Bool → Look
+look below none = record { below = below; none = none }
 
 module _ (a b : ℕ) (l : List ℕ) (n x y : ℕ) (o : 0 < b) (t : TwoTogether n l x y) where
   -- every second number is 0 exactly where y is, and then the bounds b and 1 ask the same
-  none-told : (below : Bool) → below ≡ pairsBelow a b l n → below && eqb y 0 ≡ pairsBelow a 1 l n
-  none-told below e = by (pairsBelow a 1 l n) (eqb y 0) below refl refl e
+  none-below-one : (below : Bool) → below ≡ pairsBelow a b l n → below && eqb y 0 ≡ pairsBelow a 1 l n
+  none-below-one below e = by (pairsBelow a 1 l n) (eqb y 0) below refl refl e
     where
       zero-at : y ≡ 0 → (i : ℕ) → i < n → getD l (2 * i + 1) 0 ≡ 0
       zero-at z i h =
@@ -202,10 +202,10 @@ module _ (a b : ℕ) (l : List ℕ) (n x y : ℕ) (o : 0 < b) (t : TwoTogether n
           said-no (sym p ∙ s)
       by false true false p q r = refl
 
-  pub look-each : (below : Bool) → below ≡ pairsBelow a b l n → told below (below && eqb y 0) ≡ pairsTold a b l n
-  look-each below e = rw (none-told below e, e)
+  pub look-each : (below : Bool) → below ≡ pairsBelow a b l n → look below (below && eqb y 0) ≡ pairsLook a b l n
+  look-each below e = rw (none-below-one below e, e)
 
-  pub look-below : ltb x a && ltb y b ≡ true → told true (eqb y 0) ≡ pairsTold a b l n
+  pub look-below : ltb x a && ltb y b ≡ true → look true (eqb y 0) ≡ pairsLook a b l n
   look-below h = look-each true (pairs-tested a b l n x y t h)
 
 abbrev fourIn : ℕ → ℕ → ℕ → List ℕ → ℕ → Bool

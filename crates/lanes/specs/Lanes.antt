@@ -5,7 +5,7 @@ use mathlib.Core.List.{List}
 use mathlib.Core.Path.{_≡_}
 use lib.Dec.{ltb}
 use lib.ListN.{getD}
-use Rattle.lanes.specs.declared.Told.{Told}
+use Rattle.lanes.specs.declared.Look.{Look}
 
 -- how many pairs or fours one look takes in
 abbrev pub round : ℕ
@@ -17,8 +17,8 @@ pairsBelow a b l zero = true
 pairsBelow a b l (suc n) = pairsBelow a b l n && (ltb (getD l (2 * n) 0) a && ltb (getD l (2 * n + 1) 0) b)
 
 -- the same, and the same with every second number 0
-abbrev pub pairsTold : ℕ → ℕ → List ℕ → ℕ → Told
-pairsTold a b l n = record { below = pairsBelow a b l n; none = pairsBelow a 1 l n }
+abbrev pub pairsLook : ℕ → ℕ → List ℕ → ℕ → Look
+pairsLook a b l n = record { below = pairsBelow a b l n; none = pairsBelow a 1 l n }
 
 -- of each of the first n fours, the first number is below a, the second below b and the third below c
 unfoldable pub foursBelow : ℕ → ℕ → ℕ → List ℕ → ℕ → Bool

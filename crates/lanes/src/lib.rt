@@ -2,14 +2,14 @@
 ghost use mathlib.Core.Path.{_≡_};
 ghost use Prim.Native.Nat.{_+_, _-_, _*_, _≤_, _<_};
 ghost use lib.ListN.{length};
-ghost use Rattle.lanes.specs.Lanes.{round, pairsBelow, pairsTold, foursBelow, Apart, TwoTogether, ThreeTogether};
+ghost use Rattle.lanes.specs.Lanes.{round, pairsBelow, pairsLook, foursBelow, Apart, TwoTogether, ThreeTogether};
 use flat::steps_end;
 
 // How many pairs or fours one look takes in.
 const ROUND: usize = 16;
 
 // At least each number of a round from a place on that stand a step apart.
-fn joined_apart(part: &[u32], at: usize, step: usize) -> u32
+fn round_together(part: &[u32], at: usize, step: usize) -> u32
     requires { ⌜ (at + (round - 1) * step < length (now part)) × (step ≤ 4) ⌝ }
     ensures { λ r. ⌜ Apart at step round (now (part .entry)) r ⌝ }
 {
@@ -28,7 +28,7 @@ struct Pair {
 }
 
 // At least each first and each second number of n pairs.
-fn joined_pairs(part: &[u32], n: usize) -> Pair
+fn pairs_together(part: &[u32], n: usize) -> Pair
     requires { ⌜ length (now part) ≡ 2 * n ⌝ }
     ensures { λ r. ⌜ TwoTogether n (now (part .entry)) (r .first) (r .second) ⌝ }
 {
@@ -37,8 +37,8 @@ fn joined_pairs(part: &[u32], n: usize) -> Pair
     let mut i = 0;
     let end = steps_end(n, ROUND);
     while i < end {
-        first = first | joined_apart(part, 2 * i, 2);
-        second = second | joined_apart(part, 2 * i + 1, 2);
+        first = first | round_together(part, 2 * i, 2);
+        second = second | round_together(part, 2 * i + 1, 2);
         i = i + ROUND;
     }
     while i < n {
@@ -67,24 +67,24 @@ fn each_pair_below(part: &[u32], n: usize, a: u32, b: u32) -> bool
     true
 }
 
-// What a look at pairs told: whether every first number is below a and every second below b, or even 0.
-pub struct Told {
+// A look at pairs: whether every first number is below a and every second below b, or even 0.
+pub struct Look {
     pub below: bool,
     pub none: bool,
 }
 
 // Looks at n pairs: their numbers put together show most of it, and else each pair.
-pub fn pairs(part: &[u32], n: usize, a: u32, b: u32) -> Told
+pub fn pairs(part: &[u32], n: usize, a: u32, b: u32) -> Look
     requires { ⌜ (length (now part) ≡ 2 * n) × (0 < b) ⌝ }
-    ensures { λ r. ⌜ r ≡ pairsTold a b (now (part .entry)) n ⌝ }
+    ensures { λ r. ⌜ r ≡ pairsLook a b (now (part .entry)) n ⌝ }
 {
-    let all = joined_pairs(part, n);
+    let all = pairs_together(part, n);
     let none = all.second == 0;
     if (all.first < a) & (all.second < b) {
-        return Told { below: true, none };
+        return Look { below: true, none };
     }
     let below = each_pair_below(part, n, a, b);
-    Told {
+    Look {
         below,
         none: below & none,
     }
@@ -97,7 +97,7 @@ struct Four {
 }
 
 // At least each first, each second and each third number of n fours.
-fn joined_fours(part: &[u32], n: usize) -> Four
+fn fours_together(part: &[u32], n: usize) -> Four
     requires { ⌜ length (now part) ≡ 4 * n ⌝ }
     ensures { λ r. ⌜ ThreeTogether n (now (part .entry)) (r .first) (r .second) (r .third) ⌝ }
 {
@@ -107,9 +107,9 @@ fn joined_fours(part: &[u32], n: usize) -> Four
     let mut i = 0;
     let end = steps_end(n, ROUND);
     while i < end {
-        first = first | joined_apart(part, 4 * i, 4);
-        second = second | joined_apart(part, 4 * i + 1, 4);
-        third = third | joined_apart(part, 4 * i + 2, 4);
+        first = first | round_together(part, 4 * i, 4);
+        second = second | round_together(part, 4 * i + 1, 4);
+        third = third | round_together(part, 4 * i + 2, 4);
         i = i + ROUND;
     }
     while i < n {
@@ -151,7 +151,7 @@ pub fn fours_below(part: &[u32], n: usize, a: u32, b: u32, c: u32) -> bool
     requires { ⌜ length (now part) ≡ 4 * n ⌝ }
     ensures { λ r. ⌜ r ≡ foursBelow a b c (now (part .entry)) n ⌝ }
 {
-    let all = joined_fours(part, n);
+    let all = fours_together(part, n);
     if (all.first < a) & ((all.second < b) & (all.third < c)) {
         return true;
     }

@@ -1,45 +1,9 @@
--- P9's lines and the widest ones, computed. Assumes nothing.
-use Prim.Native.Nat.{ℕ}
-use Prim.Native.Char.{code}
-use Prim.Native.String.{String, [] as nil, _∷_ as _▹_}
-use mathlib.Core.Path.{_≡_, refl}
-use mathlib.Core.List.{List, [], _∷_, map}
-use Rattle.port.specs.declared.Delivery.{Delivery}
-use Rattle.port.specs.declared.Delivery.the-variants.{None, Unready, Word}
-use Rattle.listing.specs.Listing.{digitsIn, decimal, deliveryText, field, lineOf}
+-- The lines of specs/Examples.antt, computed. Assumes nothing.
+use mathlib.Core.Path.{refl}
+use Rattle.decimal.specs.Decimal.{digitsIn, decimal}
+use Rattle.listing.specs.Listing.{deliveryText, field, lineOf}
+use Rattle.listing.specs.Examples.{LinesAsShown}
 
--- the bytes of a text of plain letters
-abbrev bytes : String → List ℕ
-bytes nil = []
-bytes (c ▹ s) = code c ∷ bytes s
-
-record Example : Type 0 where
-  number : ℕ
-  answer : ℕ
-  delivery : Delivery
-  line : String
-
-abbrev row : ℕ → ℕ → Delivery → String → Example
-row n a d s = record { number = n; answer = a; delivery = d; line = s }
-
-abbrev sheet : List Example
-sheet =
-    -- P9
-    row 0 0 None "0 0 -\n"
-    ∷ row 1 0 None "1 0 -\n"
-    ∷ row 2 0 None "2 0 -\n"
-    ∷ row 3 0 (Word 10) "3 0 10\n"
-    ∷ row 4 0 (Word 0) "4 0 0\n"
-    ∷ row 5 0 None "5 0 -\n"
-    ∷ row 6 5 (Word 0) "6 5 0\n"
-    ∷ row 7 0 (Word 0) "7 0 0\n"
-    -- beside the powers of ten, unready, and the widest
-    ∷ row 9 3 (Word 99) "9 3 99\n"
-    ∷ row 10 0 (Word 100) "10 0 100\n"
-    ∷ row 1000 0 Unready "1000 0 ?\n"
-    ∷ row 18446744073709551615 9 (Word 4294967295) "18446744073709551615 9 4294967295\n"
-    ∷ []
-
-lines : map (λ (x : Example). lineOf (x .number) (x .answer) (x .delivery)) sheet ≡ map (λ (x : Example). bytes (x .line)) sheet
+pub lines-as-shown : LinesAsShown
 unfolding digitsIn decimal deliveryText field lineOf
-lines = refl
+lines-as-shown = refl

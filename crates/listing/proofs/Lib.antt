@@ -1,5 +1,2 @@
-pub mod Stores
-pub mod Digits
-pub mod TwoDigits
 pub mod Lines
-mod Examples
+pub mod Examples

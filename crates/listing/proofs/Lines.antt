@@ -6,9 +6,10 @@ use mathlib.Core.List.{List, [], _∷_, _++_}
 use native.Mathlib.Omega.{arith}
 use lib.ListN.{length, length-append}
 use Rattle.port.specs.declared.Delivery.{Delivery}
-use Rattle.listing.specs.Listing.{numberMost, wordMost, lineMost, space, newline, dash, question, decimal, deliveryText, field, lineOf, stored}
-use Rattle.listing.proofs.Stores.{room-next, place-next}
-use Rattle.listing.proofs.Digits.{number-most, word-most}
+use Rattle.decimal.specs.Decimal.{decimal, numberMost, wordMost, stored}
+use Rattle.decimal.proofs.Stores.{room-next, place-next}
+use Rattle.decimal.proofs.Digits.{number-most, word-most}
+use Rattle.listing.specs.Listing.{lineMost, space, newline, dash, question, deliveryText, field, lineOf}
 
 ------------------------------------------------------------------------
 -- A field

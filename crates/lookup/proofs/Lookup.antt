@@ -74,6 +74,10 @@ module _ (f : Row → Bool) (c : ℕ) (l : List ℕ) where
     pub part-none : scan f c l (i - from) i ≡ x → i ≤ from → Nothing ≡ x
     part-none hx h = cc (scan-none (i - from) i (omega arith))
 
+    -- r is what the rows that are left gave
+    pub part-rest : (r : Found) → scan f c l (i - from) i ≡ x → r ≡ scan f c l (i - from) i → r ≡ x
+    part-rest r hx h = h ∙ hx
+
   ------------------------------------------------------------------------
   -- The part below the position, then the part above it
 

@@ -39,14 +39,11 @@ pub waiting-shown : (s : Setup) (t : State) (x : Lent) (b : ℕ) → length (sho
 waiting-shown s t x b = length-shown s (x .buffers) b
 
 ------------------------------------------------------------------------
--- On, or off where the state is marked stopped
+-- On where the state is not marked stopped
 
 module _ (s : Setup) (t : State) (x : Lent) where
   pub on-shown : t .stopped ≡ false → shownRun s t x ≡ on (shown s t x)
   on-shown e = ap (λ (b : Bool). pick b (off (shown s t x)) (on (shown s t x))) e
-
-  pub off-shown : t .stopped ≡ true → shownRun s t x ≡ off (shown s t x)
-  off-shown e = ap (λ (b : Bool). pick b (off (shown s t x)) (on (shown s t x))) e
 
 ------------------------------------------------------------------------
 -- A fresh start

@@ -1,5 +1,2 @@
-pub mod Choice
-pub mod Numbers
 pub mod Operation
-pub mod Setup
 pub mod RoundTrip

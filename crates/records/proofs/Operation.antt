@@ -1,4 +1,4 @@
--- The ways through the reading and the writing of an operation. Assumes nothing.
+-- Reading and writing an operation: what each way through them gives. Assumes nothing.
 use Prim.Native.Nat.{ℕ}
 use mathlib.Core.Path.{_≡_, _∙_}
 use mathlib.Core.Bool.{true, false, _&&_}
@@ -11,31 +11,32 @@ use Rattle.answers.specs.Answers.{done, badLength}
 use Rattle.map.specs.declared.Address.{Address}
 use Rattle.port.specs.declared.Operation.{Operation}
 use Rattle.port.specs.declared.Operation.the-variants.{Idle, Read, Write}
+use Rattle.bytes.specs.Bytes.{byteAt, numberAt, bytesOf}
+use Rattle.bytes.proofs.Numbers.{filled}
 use Rattle.records.specs.declared.OperationRecord.{OperationRecord}
 use Rattle.records.specs.declared.OperationRecord.the-variants.{Bad}
-use Rattle.records.specs.Records.{byteAt, numberAt, bytesOf, operationSize, idleKind, readKind, writeKind, operationZeros, goodIf, operationFrom, operationOf, operationLayout, operationBytes, operationWritten}
-use Rattle.records.proofs.Numbers.{filled}
+use Rattle.records.specs.Records.{operationSize, idleRecordKind, readRecordKind, writeRecordKind, operationZeros, goodIf, operationFrom, operationOf, operationLayout, operationBytes, operationWritten}
 
 ------------------------------------------------------------------------
 -- Reading
 
 -- r is what the case of the kind gave
 module _ (kind address word : ℕ) (r : OperationRecord) where
-  pub idle-from : kind ≡ idleKind → r ≡ goodIf (eqb address 0 && eqb word 0) Idle
+  pub idle-from : kind ≡ idleRecordKind → r ≡ goodIf (eqb address 0 && eqb word 0) Idle
       → r ≡ operationFrom kind address word
   unfolding operationFrom
   idle-from h e = cc
 
-  pub read-from : kind ≡ readKind → r ≡ goodIf (eqb word 0) (Read (record { 0 = address }))
+  pub read-from : kind ≡ readRecordKind → r ≡ goodIf (eqb word 0) (Read (record { 0 = address }))
       → r ≡ operationFrom kind address word
   unfolding operationFrom
   read-from h e = cc
 
-  pub write-from : (kind ≡ idleKind → ⊥) → (kind ≡ readKind → ⊥)
-      → r ≡ goodIf (eqb kind writeKind) (Write (record { 0 = address }) word)
+  pub write-from : (kind ≡ idleRecordKind → ⊥) → (kind ≡ readRecordKind → ⊥)
+      → r ≡ goodIf (eqb kind writeRecordKind) (Write (record { 0 = address }) word)
       → r ≡ operationFrom kind address word
   unfolding operationFrom
-  write-from i d e = cc (ne-eqb kind idleKind i, ne-eqb kind readKind d)
+  write-from i d e = cc (ne-eqb kind idleRecordKind i, ne-eqb kind readRecordKind d)
 
 module _ (s : List ℕ) where
   pub wrong-length : (length s ≡ operationSize → ⊥) → Bad ≡ operationOf s
@@ -46,11 +47,11 @@ module _ (s : List ℕ) where
   unfolding operationOf
   wrong-zeros h z = cc (eq-eqb (length s) operationSize h)
 
-  pub right : (kind address word : ℕ) (r : OperationRecord) → length s ≡ operationSize → operationZeros s ≡ true
+  pub numbers-read : (kind address word : ℕ) (r : OperationRecord) → length s ≡ operationSize → operationZeros s ≡ true
       → kind ≡ byteAt s 0 → address ≡ numberAt 4 s 4 → word ≡ numberAt 4 s 8 → r ≡ operationFrom kind address word
       → r ≡ operationOf s
   unfolding operationOf
-  right kind address word r h z e e₀ e₁ e₂ = cc (eq-eqb (length s) operationSize h)
+  numbers-read kind address word r h z e e₀ e₁ e₂ = cc (eq-eqb (length s) operationSize h)
 
 ------------------------------------------------------------------------
 -- Writing
@@ -76,17 +77,17 @@ module _ (op : Operation) (room after : List ℕ) (r : ℕ) (h : length room ≡
   unfolding operationWritten
   written e = rw (eq-eqb (length room) operationSize h, d, e)
 
-  pub idle-written : op ≡ Idle → after ≡ operationLayout idleKind 0 0
+  pub idle-written : op ≡ Idle → after ≡ operationLayout idleRecordKind 0 0
       → (r, after) ≡ operationWritten op room
   unfolding operationBytes
   idle-written o e = written (e ∙ rw o)
 
-  pub read-written : (x : Address) → op ≡ Read x → after ≡ operationLayout readKind (x .0) 0
+  pub read-written : (x : Address) → op ≡ Read x → after ≡ operationLayout readRecordKind (x .0) 0
       → (r, after) ≡ operationWritten op room
   unfolding operationBytes
   read-written x o e = written (e ∙ rw o)
 
-  pub write-written : (x : Address) (word : ℕ) → op ≡ Write x word → after ≡ operationLayout writeKind (x .0) word
+  pub write-written : (x : Address) (word : ℕ) → op ≡ Write x word → after ≡ operationLayout writeRecordKind (x .0) word
       → (r, after) ≡ operationWritten op room
   unfolding operationBytes
   write-written x word o e = written (e ∙ rw o)

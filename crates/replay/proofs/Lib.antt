@@ -2,4 +2,4 @@ pub mod Opens
 pub mod Lines
 pub mod Parts
 pub mod Replies
-mod Examples
+pub mod Examples

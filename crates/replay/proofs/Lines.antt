@@ -21,8 +21,9 @@ use Rattle.model.specs.Calls.{cycleOf}
 use Rattle.model.specs.Runs.{Machine}
 use Rattle.records.specs.Records.{operationSize, operationOf}
 use Rattle.records.specs.declared.OperationRecord.{OperationRecord}
-use Rattle.listing.specs.Listing.{lineOf, stored}
-use Rattle.listing.proofs.Stores.{stored-none, stored-after}
+use Rattle.decimal.specs.Decimal.{stored}
+use Rattle.listing.specs.Listing.{lineOf}
+use Rattle.decimal.proofs.Stores.{stored-none, stored-after}
 use Rattle.replay.specs.declared.Run.{Run}
 use Rattle.replay.specs.Replay.{Listed, withLine, withRecord, recordAt, recordsIn, listedBelow, listed, listedFrom, putAt, putLine}
 use Rattle.replay.specs.Parts.{apart}

@@ -20,11 +20,11 @@ use Rattle.model.specs.declared.Started.{Started}
 use Rattle.model.specs.Lent.{Lent, lent}
 use Rattle.model.specs.Range.{lengthsOk}
 use Rattle.model.specs.Calls.{started, freshState, freshIn, freshOf, startOf}
-use Rattle.records.specs.Records.{setupOf}
-use Rattle.records.proofs.Choice.{first}
-use Rattle.records.specs.declared.SetupRecord.{SetupRecord}
-use Rattle.listing.specs.Listing.{ten, nought}
-use Rattle.listing.proofs.Digits.{decimal-one}
+use Rattle.setuprecord.specs.SetupRecord.{setupOf}
+use Rattle.setuprecord.proofs.Choice.{first}
+use Rattle.setuprecord.specs.declared.SetupRecord.{SetupRecord}
+use Rattle.decimal.specs.Decimal.{ten, nought}
+use Rattle.decimal.proofs.Digits.{decimal-one}
 use Rattle.replay.specs.declared.Opening.{Opening}
 use Rattle.replay.specs.Replay.{mostA, mostC, mostPlaces, roomFor, openingIn, openingFor, openingOf, setupLine, zerosFor, mostBanks, wholeRoom, Opened, begun}
 

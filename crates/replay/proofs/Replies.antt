@@ -10,7 +10,8 @@ use Rattle.setup.specs.declared.Setup.{Setup}
 use Rattle.port.specs.declared.Operation.{Operation}
 use Rattle.port.specs.declared.Operation.the-variants.{Idle, Read, Write}
 use Rattle.model.specs.Runs.{Machine, after, replyOf, replies, afterAll}
-use Rattle.records.specs.Records.{operationSize, bytesOf, operationOf, operationBytes}
+use Rattle.bytes.specs.Bytes.{bytesOf}
+use Rattle.records.specs.Records.{operationSize, operationOf, operationBytes}
 use Rattle.records.specs.RoundTrip.{Fits}
 use Rattle.records.specs.declared.OperationRecord.{OperationRecord}
 use Rattle.records.proofs.RoundTrip.{operation-read-as-written}

@@ -1,3 +1,4 @@
 pub mod Replay
 pub mod Parts
 pub mod Replies
+pub mod Examples

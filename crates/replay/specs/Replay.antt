@@ -15,10 +15,12 @@ use Rattle.model.specs.declared.State.{State}
 use Rattle.model.specs.Lent.{Lent, lent}
 use Rattle.model.specs.Calls.{freshState}
 use Rattle.model.specs.Runs.{Machine, after, replyOf}
-use Rattle.records.specs.Records.{operationSize, operationOf, setupOf}
+use Rattle.records.specs.Records.{operationSize, operationOf}
+use Rattle.setuprecord.specs.SetupRecord.{setupOf}
 use Rattle.records.specs.declared.OperationRecord.{OperationRecord}
-use Rattle.records.specs.declared.SetupRecord.{SetupRecord}
-use Rattle.listing.specs.Listing.{decimal, space, newline, lineOf, stored}
+use Rattle.setuprecord.specs.declared.SetupRecord.{SetupRecord}
+use Rattle.decimal.specs.Decimal.{decimal, stored}
+use Rattle.listing.specs.Listing.{space, newline, lineOf}
 use Rattle.replay.specs.declared.Opening.{Opening}
 use Rattle.replay.specs.declared.Run.{Run}
 

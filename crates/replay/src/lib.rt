@@ -5,14 +5,15 @@ ghost use lib.ListN.{length};
 ghost use Rattle.setup.specs.Setup.{Sizes};
 ghost use Rattle.model.specs.Lent.{lent};
 ghost use Rattle.records.specs.Records.{operationOf};
-ghost use Rattle.listing.specs.Listing.{ten, pairTable, lineMost};
+ghost use Rattle.decimal.specs.Decimal.{ten, pairTable};
+ghost use Rattle.listing.specs.Listing.{lineMost};
 ghost use Rattle.replay.specs.Replay.{roomFor, openingOf, setupLine, recordsIn, withRecord, listed, listedFrom, putAt, putLine, zerosFor, Opened, begun};
 use model::State;
 use port::Delivery;
 use records::OperationRecord;
-use records::SetupRecord;
 use setup::Checked;
 use setup::Setup;
+use setuprecord::SetupRecord;
 
 // What the setup file opens: a run under its setup with the defaults in, or the answer that refuses it.
 pub enum Opening {
@@ -62,7 +63,7 @@ fn room_for(s: Setup) -> bool
 pub fn open(file: &[u8]) -> Opening
     ensures { λ r. ⌜ r ≡ openingOf (now (file .entry)) ⌝ }
 {
-    let SetupRecord::Good(given) = records::read_setup(file) else {
+    let SetupRecord::Good(given) = setuprecord::read_setup(file) else {
         return Opening::Refused(answers::BAD_SETUP);
     };
     let Checked::Good(s) = Setup::checked(given) else {
@@ -119,7 +120,7 @@ fn print(
     answer: u32,
     d: Delivery,
     on: bool,
-    table: &[u8; listing::PAIRS],
+    table: &[u8; decimal::PAIRS],
     out: &mut [u8],
 ) -> Run
     requires { ⌜ (now table ≡ pairTable) × (r .end + lineMost ≤ length (now out)) × (r .number + 1 < 2 ^ 64) ⌝ }
@@ -143,7 +144,7 @@ fn one(
     rows: &mut [u32],
     entries: &mut [u32],
     heads: &mut [u32],
-    table: &[u8; listing::PAIRS],
+    table: &[u8; decimal::PAIRS],
     out: &mut [u8],
 ) -> Run
     requires { ⌜ (now table ≡ pairTable) × (r .end + lineMost ≤ length (now out)) × (r .number + 1 < 2 ^ 64) ⌝ }
@@ -183,7 +184,7 @@ pub fn part(
     rows: &mut [u32],
     entries: &mut [u32],
     heads: &mut [u32],
-    table: &[u8; listing::PAIRS],
+    table: &[u8; decimal::PAIRS],
     out: &mut [u8],
 ) -> Run
     requires { ⌜ (now table ≡ pairTable) × (lineMost * recordsIn (length (now input)) ≤ length (now out)) × (run .number + recordsIn (length (now input)) < 2 ^ 64) ⌝ }

@@ -7,7 +7,7 @@ use mathlib.Core.Logic.{_⊎_, inl, inr, ⊎-elim}
 use lib.Dec.{ltb}
 use borrow.Author.Tests.{lt-ltb, le-ltb}
 use Rattle.choice.specs.Choice.{pick}
-use Rattle.choice.proofs.Tests.{below-or-not, same-or-not}
+use Rattle.choice.proofs.Tests.{below-or-not}
 use Rattle.rings.specs.Places.{onward, back}
 
 ------------------------------------------------------------------------
@@ -81,6 +81,3 @@ parts-differ b b' k i j h l n e =
     (λ w. omega (arith, part-within b b' k w))
     (λ w. ⊎-elim (λ v. omega (arith, part-within b' b k v)) (λ v. n (omega arith)) (below-or-not b' b))
     (below-or-not b b')
-
-pub part-same : (b b' k i j : ℕ) → i < k → j < k → b * k + i ≡ b' * k + j → b ≡ b'
-part-same b b' k i j h l e = ⊎-elim (λ w. w) (λ w. absurd (parts-differ b b' k i j h l w e)) (same-or-not b b')

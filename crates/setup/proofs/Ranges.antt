@@ -12,7 +12,7 @@ use Rattle.setup.specs.declared.Checked.the-variants.{Good, Refused}
 use Rattle.choice.specs.Choice.{pick}
 use Rattle.map.specs.declared.Map.{Map}
 use Rattle.map.specs.Map as map
-use Rattle.setup.specs.Setup.{sizesOk, restOk, inRange, Sizes, Ranges, withDefaults, checkedOf, mapOf, wordsOf, banksOf}
+use Rattle.setup.specs.Setup.{sizesOk, restOk, inRange, Sizes, Ranges, withDefaults, checkedOf, mapOf, banksOf}
 
 pub and-l : (x y : Bool) → x && y ≡ true → x ≡ true
 and-l true y h = refl
@@ -63,9 +63,6 @@ map-sizes s m e z = rw e (z .map)
 
 ------------------------------------------------------------------------
 -- How large the lent slices can be
-
-pub words-most : (s : Setup) → Sizes s → wordsOf s ≤ 1048576
-words-most s z = pow-mono {j = 20} (z .map .a-most)
 
 pub banks-most : (s : Setup) → Sizes s → banksOf s ≤ 64
 banks-most s z = pow-mono {j = 6} (z .map .s-most)

@@ -12,8 +12,9 @@ use Rattle.map.specs.Map.{cellOf, bankOf, rowOf, joinOf}
 use Rattle.map.specs.Map as map
 use Rattle.port.specs.declared.Operation.{Operation}
 use Rattle.records.specs.declared.OperationRecord.{OperationRecord}
-use Rattle.records.specs.declared.SetupRecord.{SetupRecord}
-use Rattle.records.specs.Records.{operationFrom, operationOf, operationWritten, setupOf, setupWritten}
+use Rattle.setuprecord.specs.declared.SetupRecord.{SetupRecord}
+use Rattle.records.specs.Records.{operationFrom, operationOf, operationWritten}
+use Rattle.setuprecord.specs.SetupRecord.{setupOf, setupWritten}
 use Rattle.model.specs.declared.State.{State}
 use Rattle.model.specs.declared.Cycled.{Cycled}
 use Rattle.model.specs.declared.Started.{Started}

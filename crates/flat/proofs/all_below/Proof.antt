@@ -5,11 +5,11 @@ use Rattle.flat.proofs.Flat.{upto-below}
 use Rattle.flat.proofs.all_below.Statement.{statement}
 use Rattle.flat.proofs.all_below.Tie as tie
 
-joined-all-requires : tie.Need-joined-all-requires
-joined-all-requires c κs = search needs
+all-together-requires : tie.Need-all-together-requires
+all-together-requires c κs = search needs
 
 returns : tie.Need-returns
-returns c = upto-below _ _ _ (c .before .joined-all .ensures) (omega arith)
+returns c = upto-below _ _ _ (c .before .all-together .ensures) (omega arith)
 
 each-below-requires : tie.Need-each-below-requires
 each-below-requires c κs = search needs
@@ -18,4 +18,4 @@ returns-2 : tie.Need-returns-2
 returns-2 c = search needs
 
 pub all-below-spec : {M : Type 1} → statement M
-all-below-spec = tie.close (tie.spec joined-all-requires returns each-below-requires returns-2)
+all-below-spec = tie.close (tie.spec all-together-requires returns each-below-requires returns-2)

@@ -4,8 +4,8 @@ use Rattle.lanes.proofs.Lanes.{fours-tested}
 use Rattle.lanes.proofs.fours_below.Statement.{statement}
 use Rattle.lanes.proofs.fours_below.Tie as tie
 
-joined-fours-requires : tie.Need-joined-fours-requires
-joined-fours-requires c κs = search needs
+fours-together-requires : tie.Need-fours-together-requires
+fours-together-requires c κs = search needs
 
 returns : tie.Need-returns
 returns c = search fours-tested
@@ -18,4 +18,4 @@ returns-2 c = search needs
 
 pub fours-below-spec : {M : Type 1} → statement M
 fours-below-spec =
-    tie.close (tie.spec joined-fours-requires returns each-four-below-requires returns-2)
+    tie.close (tie.spec fours-together-requires returns each-four-below-requires returns-2)

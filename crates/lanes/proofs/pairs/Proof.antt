@@ -4,8 +4,8 @@ use Rattle.lanes.proofs.Lanes.{look-below, look-each}
 use Rattle.lanes.proofs.pairs.Statement.{statement}
 use Rattle.lanes.proofs.pairs.Tie as tie
 
-joined-pairs-requires : tie.Need-joined-pairs-requires
-joined-pairs-requires c κs = search needs
+pairs-together-requires : tie.Need-pairs-together-requires
+pairs-together-requires c κs = search needs
 
 returns : tie.Need-returns
 returns c = search look-below
@@ -17,4 +17,4 @@ returns-2 : tie.Need-returns-2
 returns-2 c = search look-each
 
 pub pairs-spec : {M : Type 1} → statement M
-pairs-spec = tie.close (tie.spec joined-pairs-requires returns each-pair-below-requires returns-2)
+pairs-spec = tie.close (tie.spec pairs-together-requires returns each-pair-below-requires returns-2)

@@ -1,6 +1,6 @@
 -- `listing::put_delivery` meets its contract: each arm knows the delivery, and so its text. Assumes nothing.
 use native.Mathlib.Omega.{arith}
-use Rattle.listing.proofs.Digits.{word-most}
+use Rattle.decimal.proofs.Digits.{word-most}
 use Rattle.listing.proofs.Lines.{text-none, text-unready, text-word, text-stored}
 use borrow.Author.Needs.{needs}
 use Rattle.listing.proofs.put_delivery.Statement.{statement}

@@ -1,6 +1,6 @@
 -- `listing::put_field` meets its contract: a number of 64 bits has at most 20 digits. Assumes nothing.
 use native.Mathlib.Omega.{arith}
-use Rattle.listing.proofs.Digits.{number-most}
+use Rattle.decimal.proofs.Digits.{number-most}
 use Rattle.listing.proofs.Lines.{field-stored, length-field}
 use borrow.Author.Needs.{needs}
 use Rattle.listing.proofs.put_field.Statement.{statement}

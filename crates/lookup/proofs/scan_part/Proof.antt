@@ -5,7 +5,7 @@ use native.Mathlib.Omega.{arith}
 use mathlib.Core.Path.{_≡_}
 use Rattle.model.specs.Cycle.{scan}
 use Rattle.lookup.specs.Lookup.{wanted}
-use Rattle.lookup.proofs.Lookup.{block-hit, block-miss, found-part, within-more}
+use Rattle.lookup.proofs.Lookup.{part-rest, block-hit, block-miss, found-part, within-more}
 use Rattle.lookup.proofs.scan_part.Statement.{statement}
 use Rattle.lookup.proofs.scan_part.Tie as tie
 
@@ -49,7 +49,7 @@ scan-rest-requires : tie.Need-scan-rest-requires Inv-loop μ-loop
 scan-rest-requires c κs = search needs
 
 returns-2 : tie.Need-returns-2 Inv-loop μ-loop
-returns-2 c = (cc, search within-more)
+returns-2 c = (search part-rest, search within-more)
 
 pub scan-part-spec : {M : Type 1} → statement M
 scan-part-spec =

@@ -1,6 +1,6 @@
 -- `read_operation` meets its contract: each return knows the length and the zero bytes. Assumes nothing.
 use borrow.Author.Needs.{needs}
-use Rattle.records.proofs.Operation.{wrong-length, wrong-zeros, right}
+use Rattle.records.proofs.Operation.{wrong-length, wrong-zeros, numbers-read}
 use Rattle.records.proofs.read_operation.Statement.{statement}
 use Rattle.records.proofs.read_operation.Tie as tie
 
@@ -32,7 +32,7 @@ operation-from-requires : tie.Need-operation-from-requires
 operation-from-requires c κs = search needs
 
 returns-2 : tie.Need-returns-2
-returns-2 c = search (right)
+returns-2 c = search (numbers-read)
 
 returns-3 : tie.Need-returns-3
 returns-3 c = search (wrong-zeros)

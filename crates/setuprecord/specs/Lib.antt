@@ -1,0 +1,2 @@
+pub mod SetupRecord
+pub mod RoundTrip
