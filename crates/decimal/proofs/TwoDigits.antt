@@ -9,43 +9,43 @@ use native.Mathlib.Numerals.{add-one}
 use native.Mathlib.Omega.{arith}
 use lib.ListN.{length, take, getD, set, length-append, List·getD-append}
 use lib.Seq.{getD-append-add, take-all}
-use Rattle.decimal.specs.Decimal.{ten, digit, stored, digits, pair, hundred, pairsBelow, pairTable}
+use Rattle.decimal.specs.Decimal.{ten, digit, stored, digits, pair, hundred, digitPairs, pairTable}
 use Rattle.decimal.proofs.Stores.{stored-none, stored-two-bytes, stored-before, text-next}
 use Rattle.decimal.proofs.Digits.{length-digits}
 
 ------------------------------------------------------------------------
 -- The table
 
-pub length-pairs : (m : ℕ) → length (pairsBelow m) ≡ pair * m
-unfolding pairsBelow
+pub length-pairs : (m : ℕ) → length (digitPairs m) ≡ pair * m
+unfolding digitPairs
 length-pairs zero = refl
-length-pairs (suc m) = rw (length-append (pairsBelow m) (digits pair m), length-pairs m, length-digits pair m) (omega arith)
+length-pairs (suc m) = rw (length-append (digitPairs m) (digits pair m), length-pairs m, length-digits pair m) (omega arith)
 
 -- digit j of n's pair
-pair-at : (m n j : ℕ) → n < m → j < pair → getD (pairsBelow m) (pair * n + j) 0 ≡ getD (digits pair n) j 0
-unfolding pairsBelow
+pair-at : (m n j : ℕ) → n < m → j < pair → getD (digitPairs m) (pair * n + j) 0 ≡ getD (digits pair n) j 0
+unfolding digitPairs
 pair-at zero n j h l = absurd (omega arith)
 pair-at (suc m) n j h l =
     ⊎-elim
     (λ z.
     let e : m ≡ n = omega arith in
-    rw (e, ← length-pairs n) (getD-append-add (pairsBelow n) (digits pair n) j 0))
+    rw (e, ← length-pairs n) (getD-append-add (digitPairs n) (digits pair n) j 0))
     (λ p.
-    List·getD-append (pairsBelow m) (digits pair m) 0 (pair * n + j) (omega (arith, length-pairs m))
+    List·getD-append (digitPairs m) (digits pair m) 0 (pair * n + j) (omega (arith, length-pairs m))
     ∙ pair-at m n j (omega arith) l)
     (eq-zero-or-pos (m - n))
 
 -- one pair more
-pub pairs-turn : (table table′ : List ℕ) (at n : ℕ) → at ≤ length table → take at table ≡ pairsBelow n
-    → table′ ≡ stored table at (digits pair n) → take (at + pair) table′ ≡ pairsBelow (n + 1)
-unfolding pairsBelow
+pub pairs-turn : (table table′ : List ℕ) (at n : ℕ) → at ≤ length table → take at table ≡ digitPairs n
+    → table′ ≡ stored table at (digits pair n) → take (at + pair) table′ ≡ digitPairs (n + 1)
+unfolding digitPairs
 pairs-turn table table′ at n h e e′ =
     rw (add-one n)
-    (text-next table table′ at (at + pair) (pairsBelow n) (digits pair n) h e e′ (omega (arith, length-digits pair n)))
+    (text-next table table′ at (at + pair) (digitPairs n) (digits pair n) h e e′ (omega (arith, length-digits pair n)))
 
 -- all of them
-pub pairs-end : (table : List ℕ) (at n : ℕ) → length table ≤ at → n ≡ hundred → take at table ≡ pairsBelow n → table ≡ pairTable
-pairs-end table at n l h e = sym (take-all at table l) ∙ rw e (ap pairsBelow h)
+pub pairs-end : (table : List ℕ) (at n : ℕ) → length table ≤ at → n ≡ hundred → take at table ≡ digitPairs n → table ≡ pairTable
+pairs-end table at n l h e = sym (take-all at table l) ∙ rw e (ap digitPairs h)
 
 ------------------------------------------------------------------------
 -- Two digits in the room

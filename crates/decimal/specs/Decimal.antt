@@ -57,12 +57,13 @@ abbrev pub hundred : ℕ
 hundred = 100
 
 -- the two digits of each number below n, one pair after the other
-unfoldable pub pairsBelow : ℕ → List ℕ
-pairsBelow zero = []
-pairsBelow (suc n) = pairsBelow n ++ digits pair n
+unfoldable pub digitPairs : ℕ → List ℕ
+digitPairs zero = []
+digitPairs (suc n) = digitPairs n ++ digits pair n
 
+-- the table: a pair for each number below 100
 abbrev pub pairTable : List ℕ
-pairTable = pairsBelow hundred
+pairTable = digitPairs hundred
 
 -- the most digits that are counted at once
 abbrev pub shortMost : ℕ

@@ -1,4 +1,4 @@
--- The document's "Records": an operation has 12 bytes, kind (0 idle, 1 read, 2 write), three zero bytes, address (4), word (4).
+-- The document's "Records": the operation record.
 use Prim.Native.Nat.{ℕ}
 use mathlib.Core.Bool.{Bool, _&&_}
 use mathlib.Core.List.{List, _∷_, _++_}
@@ -11,9 +11,11 @@ use Rattle.port.specs.declared.Operation.the-variants.{Idle, Read, Write}
 use Rattle.bytes.specs.Bytes.{byteAt, numberAt, bytesOf, zeroAt, zeros}
 use Rattle.records.specs.declared.OperationRecord.{OperationRecord}
 
+-- an operation has 12 bytes
 abbrev pub operationSize : ℕ
 operationSize = 12
 
+-- kind (0 idle, 1 read, 2 write)
 abbrev pub idleRecordKind : ℕ
 idleRecordKind = 0
 
@@ -23,9 +25,11 @@ readRecordKind = 1
 abbrev pub writeRecordKind : ℕ
 writeRecordKind = 2
 
+-- three zero bytes
 abbrev pub operationZeros : List ℕ → Bool
 operationZeros s = zeroAt s 1 && zeroAt s 2 && zeroAt s 3
 
+-- an operation where a test holds, else a bad record
 abbrev pub goodIf : Bool → Operation → OperationRecord
 goodIf test op = pick test (OperationRecord.Good op) OperationRecord.Bad
 
@@ -45,6 +49,7 @@ operationOf s =
     (operationFrom (byteAt s 0) (numberAt 4 s 4) (numberAt 4 s 8))
     OperationRecord.Bad
 
+-- kind, three zero bytes, address (4), word (4)
 abbrev pub operationLayout : (kind address word : ℕ) → List ℕ
 operationLayout kind address word = (kind ∷ zeros 3) ++ bytesOf 4 address ++ bytesOf 4 word
 

@@ -1,4 +1,4 @@
--- The document's "Records": a setup has 20 bytes, mode, a, s, m (1 each), K, Δ, C (2 each), two zero bytes, u, v (4 each).
+-- The document's "Records": the setup record.
 use Prim.Native.Nat.{ℕ}
 use mathlib.Core.Bool.{Bool, _&&_}
 use mathlib.Core.List.{List, [], _∷_, _++_}
@@ -11,9 +11,11 @@ use Rattle.setup.specs.declared.Setup.{Setup}
 use Rattle.bytes.specs.Bytes.{byteAt, numberAt, bytesOf, zeroAt, zeros}
 use Rattle.setuprecord.specs.declared.SetupRecord.{SetupRecord}
 
+-- a setup has 20 bytes
 abbrev pub setupSize : ℕ
 setupSize = 20
 
+-- mode, a, s, m (1 each), K, Δ, C (2 each), two zero bytes, u, v (4 each)
 unfoldable pub setupFields : List ℕ → Setup
 setupFields s =
     record {
@@ -28,6 +30,7 @@ setupFields s =
       v = numberAt 4 s 16;
     }
 
+-- the two zero bytes
 abbrev pub setupZeros : List ℕ → Bool
 setupZeros s = zeroAt s 10 && zeroAt s 11
 

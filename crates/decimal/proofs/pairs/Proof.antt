@@ -4,19 +4,19 @@ use mathlib.Core.Path.{_≡_}
 use native.Mathlib.Omega.{arith}
 use lib.ListN.{length, take}
 use borrow.Author.Needs.{needs}
-use Rattle.decimal.specs.Decimal.{hundred, pairsBelow}
+use Rattle.decimal.specs.Decimal.{hundred, digitPairs}
 use Rattle.decimal.proofs.TwoDigits.{pairs-turn, pairs-end}
 use Rattle.decimal.proofs.pairs.Statement.{statement}
 use Rattle.decimal.proofs.pairs.Tie as tie
 
 abbrev Inv-loop : tie.InvT-loop
-Inv-loop table₀ at₀ n₀ table at n = (at ≡ 2 * n) × (n ≤ hundred) × (length table ≡ 2 * hundred) × (take at table ≡ pairsBelow n)
+Inv-loop table₀ at₀ n₀ table at n = (at ≡ 2 * n) × (n ≤ hundred) × (length table ≡ 2 * hundred) × (take at table ≡ digitPairs n)
 
 abbrev μ-loop : tie.MeasureT-loop
 μ-loop table₀ at₀ n₀ table at n = hundred - n
 
 loop-holds : tie.Need-loop-holds Inv-loop μ-loop
-unfolding pairsBelow
+unfolding digitPairs
 loop-holds c = search needs
 
 slice-aggregate-put-two : tie.Need-slice-aggregate-put-two Inv-loop μ-loop
