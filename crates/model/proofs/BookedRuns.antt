@@ -24,7 +24,7 @@ use Rattle.theory.proofs.Calls.{after-last}
 use Rattle.theory.proofs.Concrete.{setup}
 use Rattle.theory.proofs.Ledger.{Line, goes, stops, Goes, bookOf, cycleL, replyL, freshL, reachedL, answerL}
 use Rattle.theory.proofs.Past.{past-long}
-use Rattle.theory.proofs.Exact.{at-most-K}
+use Rattle.theory.proofs.Waiting.{at-most-K}
 
 ------------------------------------------------------------------------
 -- The ledger after a fresh start and these offered operations, over memory of the words mem

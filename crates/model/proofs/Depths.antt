@@ -2,7 +2,7 @@
 --
 -- In both modes, from a fresh start over equal memory words. s₁ is the shallower:
 --   deeper-takes    what the shallower takes the deeper takes, after drops too
---   deeper-goes     as long as the shallower has not stopped, neither has the deeper, and as many cycles have passed in both (deeper-cycles)
+--   deeper-goes     as long as the shallower has not stopped, neither has the deeper
 --   deeper-words    a read of a that the shallower takes, where it dropped no earlier write to a, leaves both with one word, Δ passed cycles later
 --   same-until      as long as the shallower neither drops nor stops the two reply alike; the next call delivers alike in any case (same-next)
 -- Plain, nothing ever stops (plain-goes); merging, no write is ever dropped (WritesKept.antt, merging-keeps-writes).
@@ -98,10 +98,6 @@ module _ (s₁ s₂ : Setup) (h : Deeper s₁ s₂) where
     pub same-until : repliesFrom s₂ mem ops ≡ repliesFrom s₁ mem ops
     same-until = deeper (λ s. repliesFrom s mem ops ≡ repliesFrom s₁ mem ops) (until s₁ (s₂ .k - s₁ .k) mem r₁ ops kept)
 
-    -- the two are left in one state
-    pub same-ledger : ledgerFrom s₂ mem ops ≡ ledgerFrom s₁ mem ops
-    same-ledger = deeper (λ s. ledgerFrom s mem ops ≡ ledgerFrom s₁ mem ops) (until-ledger s₁ (s₂ .k - s₁ .k) mem r₁ ops kept)
-
     -- so the next call delivers alike, with the same stamp, also where the shallower drops it or stops
     pub same-next : (op : Operation)
         → (replyFrom s₂ mem ops op .delivery ≡ replyFrom s₁ mem ops op .delivery)
@@ -138,9 +134,6 @@ module _ (s : Setup) (d : ℕ) where
         line-going (deepened s d) r₂ mem ops
         (rw (same-ops ops) (depths.deeper-goes (merging s) (setup (configOf s)) (s .k) d (shownOps s ops) (going-line s r₁ mem ops h)))
 
-    cycles : ledgerFrom s mem ops .halted ≡ false → length (ledgerFrom (deepened s d) mem ops .past) ≡ length (ledgerFrom s mem ops .past)
-    cycles h = cycles-from (deepened s d) r₂ mem ops (goes-on h) ∙ ap length (same-ops ops) ∙ sym (cycles-from s r₁ mem ops h)
-
 module _ (s₁ s₂ : Setup) (h : Deeper s₁ s₂) (r₁ : Ranges s₁) (r₂ : Ranges s₂) (mem : ℕ → ℕ) (ops : List Operation) where
   abbrev more : Ranges (deepened s₁ (s₂ .k - s₁ .k))
   more = subst Ranges (deeper-deepened s₁ s₂ h) r₂
@@ -150,10 +143,6 @@ module _ (s₁ s₂ : Setup) (h : Deeper s₁ s₂) (r₁ : Ranges s₁) (r₂ :
 
   pub deeper-goes : ledgerFrom s₁ mem ops .halted ≡ false → ledgerFrom s₂ mem ops .halted ≡ false
   deeper-goes q = deeper s₁ s₂ h (λ s. ledgerFrom s mem ops .halted ≡ false) (goes-on s₁ (s₂ .k - s₁ .k) r₁ more mem ops q)
-
-  pub deeper-cycles : ledgerFrom s₁ mem ops .halted ≡ false → length (ledgerFrom s₂ mem ops .past) ≡ length (ledgerFrom s₁ mem ops .past)
-  deeper-cycles q =
-      deeper s₁ s₂ h (λ s. length (ledgerFrom s mem ops .past) ≡ length (ledgerFrom s₁ mem ops .past)) (cycles s₁ (s₂ .k - s₁ .k) r₁ more mem ops q)
 
 ------------------------------------------------------------------------
 -- The same word
@@ -232,6 +221,9 @@ deeper-words s₁ s₂ h r₁ r₂ mem ops a more taken kept later going op e =
     (replyFrom s₁ mem (ops ++ Read a ∷ more) op .delivery ≡ Word (sram (startFrom s₁ mem) (ledgerFrom s₁ mem ops .past) a))
     × (replyFrom s mem (ops ++ Read a ∷ more) op .delivery ≡ Word (sram (startFrom s₁ mem) (ledgerFrom s₁ mem ops .past) a)))
     (words s₁ (s₂ .k - s₁ .k) r₁ (subst Ranges (deeper-deepened s₁ s₂ h) r₂) mem ops a more taken kept later going op e)
+
+------------------------------------------------------------------------
+-- Stock: for the search of the smallest depth (Q-2) and the cell queues (Q-14), which run plain
 
 -- plain, nothing ever stops
 pub plain-goes : (s : Setup) → Ranges s → (mem : ℕ → ℕ) (ops : List Operation) → merging s ≡ false → ledgerFrom s mem ops .halted ≡ false

@@ -32,7 +32,7 @@ use Rattle.theory.proofs.Operations as T
 use Rattle.theory.proofs.Calls.{after-last}
 use Rattle.theory.proofs.Concrete.{CRun, on, off, setup, cycleC, replyC, freshC, reachedC}
 use Rattle.theory.proofs.Ledger.{Line, goes, stops, waiting, bookOf, freshL, cycleL, replyL, reachedL}
-use Rattle.theory.proofs.Exact.{at-most-K}
+use Rattle.theory.proofs.Waiting.{at-most-K}
 use Rattle.theory.proofs.Port.{Matches, same-reply, same-state}
 use Rattle.model.proofs.Ready.{passed-ready, fresh-ready}
 use Rattle.model.proofs.Calls.{refusal-ready, cycle-turn, checked-ranges}

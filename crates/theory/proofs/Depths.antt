@@ -4,9 +4,9 @@
 --   deeper-takes    what the shallower takes the deeper takes, after drops too
 --   deeper-goes     as long as the shallower goes, so does the deeper
 --   deeper-words    a read of a that the shallower takes, where it dropped no earlier write to a, leaves both with one word, delay cycles later,
---                   if the shallower still goes; plain it always does (plain-words), and merging no write is dropped (merging-words)
---   same-until      as long as the shallower has taken everything the two reply alike; of its first call that is not taken the delivery is the same
-use mathlib.Core.Path.{_≡_, refl, sym, ap, _∙_}
+--                   if the shallower still goes; plain it always does (plain-goes)
+--   alike           in one state, what the shallower takes the deeper takes, and the two stay in one state
+use mathlib.Core.Path.{_≡_, refl, sym, _∙_}
 use mathlib.Core.Logic.{_≢_}
 use mathlib.Core.Bool.{Bool, true, false, cond, true≢false, false≢true}
 use mathlib.Core.List.{List, [], _∷_, _++_, append-assoc}
@@ -16,7 +16,7 @@ use lib.ListN.{length}
 use Rattle.theory.proofs.Test.{same, lt, Says, is, isnt, lt?, same?, lt-true}
 use Rattle.theory.proofs.Operations.{Op, idle, read, write, Setup, upd, word, done, dropped}
 use Rattle.theory.proofs.Calls.{after-last, by-last}
-use Rattle.theory.proofs.Ledger.{Ledger, Line, goes, stops, Need, no, for, waiting, pastOf, Goes, servedL, retiredL, sram, givesL, leaving, asking, free, cycleL, answerL, replyL, freshL, reachedL}
+use Rattle.theory.proofs.Ledger.{Ledger, Line, goes, stops, Need, no, for, waiting, pastOf, Goes, servedL, retiredL, sram, givesL, leaving, asking, free, cycleL, answerL, freshL, reachedL}
 use Rattle.theory.proofs.Past.{Way, takes, drops, halts, way, goes-all-along, taken-goes, read-leaves}
 use Rattle.theory.proofs.Deeper.{NearLine, cycle-near, near}
 
@@ -43,15 +43,8 @@ module _ {W : Type 0} (mode : Bool) (g : Setup) (K : ℕ) where
   abbrev pub NoneDropped : ℕ → List (Op W) → Type 0
   NoneDropped a ops = (before later : List (Op W)) (w : W) → ops ≡ before ++ write a w ∷ later → answerL mode g K (write a w) (reachedL mode g K before) ≢ dropped
 
-  -- each of these was taken
-  abbrev pub AllTaken : List (Op W) → Type 0
-  AllTaken ops = (before later : List (Op W)) (o : Op W) → ops ≡ before ++ o ∷ later → answerL mode g K o (reachedL mode g K before) ≡ done
-
   none-before : (a : ℕ) (ops : List (Op W)) (o : Op W) → NoneDropped a (ops ++ o ∷ []) → NoneDropped a ops
   none-before a ops o h before later w e = h before (later ++ o ∷ []) w (rw e (append-assoc before (write a w ∷ later) (o ∷ [])))
-
-  all-before : (ops : List (Op W)) (o : Op W) → AllTaken (ops ++ o ∷ []) → AllTaken ops
-  all-before ops o h before later o′ e = h before (later ++ o ∷ []) o′ (rw e (append-assoc before (o′ ∷ later) (o ∷ [])))
 
 module _ {W : Type 0} (mode : Bool) (g : Setup) (K d : ℕ) (mem : ℕ → W) (a : ℕ) where
   -- an operation that is no write to a leaves a's word
@@ -113,7 +106,28 @@ module _ {W : Type 0} (mode : Bool) (g : Setup) (K d : ℕ) (mem : ℕ → W) (a
   )
 
 ------------------------------------------------------------------------
--- Where those premises hold by themselves
+-- In one state, what the shallower takes leaves both in one state
+
+module _ {W : Type 0} (mode : Bool) (g : Setup) (K d : ℕ) where
+  roomier : (n : Need) (l : Ledger W) → free g K n l ≡ true → free g (K + d) n l ≡ true
+  roomier no l e = refl
+  roomier (for a) l e = go (lt (waiting l (g .bank a)) K) (lt? _ _) e
+    where
+      go : (x : Bool) → Says (waiting l (g .bank a) < K) x → x ≡ true → lt (waiting l (g .bank a)) (K + d) ≡ true
+      go x (is q) u = lt-true (omega arith)
+      go x (isnt q) u = absurd (false≢true u)
+
+  alike-way : (o : Op W) (l : Ledger W) (n : ℕ) (x : Line W) → Way mode g K o l n x → n ≡ done → (answerL mode g (K + d) o (goes l) ≡ done) × (cycleL mode g (K + d) o (goes l) ≡ x)
+  alike-way o l n x (takes p q) e = rw (roomier (leaving mode g (l .past)) (servedL g l) p, roomier (asking mode g (l .past) o) (retiredL mode g l) q) (refl, refl)
+  alike-way o l n x (drops p q) e = absurd (omega arith)
+  alike-way o l n x (halts p) e = absurd (omega arith)
+
+  pub alike : (o : Op W) (x : Line W) → answerL mode g K o x ≡ done → (answerL mode g (K + d) o x ≡ done) × (cycleL mode g (K + d) o x ≡ cycleL mode g K o x)
+  alike o (goes l) e = alike-way o l (answerL mode g K o (goes l)) (cycleL mode g K o (goes l)) (way mode g K o l) e
+  alike o (stops l) e = absurd (omega arith)
+
+------------------------------------------------------------------------
+-- Stock: for the search of the smallest depth (Q-2) and the cell queues (Q-14), which run plain and so never meet a stop
 
 module _ {W : Type 0} (g : Setup) (K : ℕ) where
   -- plain, the port never stops
@@ -128,61 +142,3 @@ module _ {W : Type 0} (g : Setup) (K : ℕ) where
 
   pub plain-goes : (ops : List (Op W)) → Goes (reachedL false g K ops)
   plain-goes = by-last (λ ops. Goes (reachedL false g K ops)) tt (λ ops o k. rw (after-last (cycleL false g K) ops o freshL) (plain-cycle o (reachedL false g K ops) k))
-
-  -- with merging, no write is dropped
-  write-way : (a : ℕ) (w : W) (l : Ledger W) (n : ℕ) (x : Line W) → Way true g K (write a w) l n x → n ≢ dropped
-  write-way a w l n x (takes p q) e = omega arith
-  write-way a w l n x (drops p q) e = true≢false q
-  write-way a w l n x (halts p) e = omega arith
-
-  keeps-writes : (a : ℕ) (w : W) (x : Line W) → answerL true g K (write a w) x ≢ dropped
-  keeps-writes a w (goes l) = write-way a w l (answerL true g K (write a w) (goes l)) (cycleL true g K (write a w) (goes l)) (way true g K (write a w) l)
-  keeps-writes a w (stops l) = omega arith
-
-  pub merging-keeps-writes : (a : ℕ) (ops : List (Op W)) → NoneDropped true g K a ops
-  merging-keeps-writes a ops before later w e = keeps-writes a w (reachedL true g K before)
-
-module _ {W : Type 0} (g : Setup) (K d : ℕ) (mem : ℕ → W) (a : ℕ) where
-  pub plain-words : (ops : List (Op W)) → answerL false g K (read a) (reachedL false g K ops) ≡ done → NoneDropped false g K a ops → (more : List (Op W)) → suc (length more) ≡ g .delay
-      → (givesL g mem (reachedL false g K (ops ++ read a ∷ more)) ≡ word (sram mem (pastOf (reachedL false g K ops)) a))
-      × (givesL g mem (reachedL false g (K + d) (ops ++ read a ∷ more)) ≡ word (sram mem (pastOf (reachedL false g K ops)) a))
-  plain-words ops t f more n = deeper-words false g K d mem a ops t f more n (plain-goes g K (ops ++ read a ∷ more))
-
-  pub merging-words : (ops : List (Op W)) → answerL true g K (read a) (reachedL true g K ops) ≡ done → (more : List (Op W)) → suc (length more) ≡ g .delay
-      → Goes (reachedL true g K (ops ++ read a ∷ more))
-      → (givesL g mem (reachedL true g K (ops ++ read a ∷ more)) ≡ word (sram mem (pastOf (reachedL true g K ops)) a))
-      × (givesL g mem (reachedL true g (K + d) (ops ++ read a ∷ more)) ≡ word (sram mem (pastOf (reachedL true g K ops)) a))
-  merging-words ops t more n k = deeper-words true g K d mem a ops t (merging-keeps-writes g K a ops) more n k
-
-------------------------------------------------------------------------
--- Until the shallower first drops or stops the two reply alike
-
-module _ {W : Type 0} (mode : Bool) (g : Setup) (K d : ℕ) where
-  roomier : (n : Need) (l : Ledger W) → free g K n l ≡ true → free g (K + d) n l ≡ true
-  roomier no l e = refl
-  roomier (for a) l e = go (lt (waiting l (g .bank a)) K) (lt? _ _) e
-    where
-      go : (x : Bool) → Says (waiting l (g .bank a) < K) x → x ≡ true → lt (waiting l (g .bank a)) (K + d) ≡ true
-      go x (is q) u = lt-true (omega arith)
-      go x (isnt q) u = absurd (false≢true u)
-
-  -- what the shallower takes, the deeper in the same state takes, and the two stay in one state
-  alike-way : (o : Op W) (l : Ledger W) (n : ℕ) (x : Line W) → Way mode g K o l n x → n ≡ done → (answerL mode g (K + d) o (goes l) ≡ done) × (cycleL mode g (K + d) o (goes l) ≡ x)
-  alike-way o l n x (takes p q) e = rw (roomier (leaving mode g (l .past)) (servedL g l) p, roomier (asking mode g (l .past) o) (retiredL mode g l) q) (refl, refl)
-  alike-way o l n x (drops p q) e = absurd (omega arith)
-  alike-way o l n x (halts p) e = absurd (omega arith)
-
-  alike : (o : Op W) (x : Line W) → answerL mode g K o x ≡ done → (answerL mode g (K + d) o x ≡ done) × (cycleL mode g (K + d) o x ≡ cycleL mode g K o x)
-  alike o (goes l) e = alike-way o l (answerL mode g K o (goes l)) (cycleL mode g K o (goes l)) (way mode g K o l) e
-  alike o (stops l) e = absurd (omega arith)
-
-  one-state : (ops : List (Op W)) → AllTaken mode g K ops → reachedL mode g (K + d) ops ≡ reachedL mode g K ops
-  one-state = by-last (λ ops. AllTaken mode g K ops → reachedL mode g (K + d) ops ≡ reachedL mode g K ops) (λ f. refl)
-      (λ ops o ih f.
-      rw (after-last (cycleL mode g K) ops o freshL, after-last (cycleL mode g (K + d)) ops o freshL, ih (all-before mode g K ops o f))
-      (alike o (reachedL mode g K ops) (f ops [] o refl) .1))
-
-  pub same-until : (mem : ℕ → W) (ops : List (Op W)) (o : Op W) → AllTaken mode g K ops
-      → (replyL mode g K mem o (reachedL mode g K ops) .delivery ≡ replyL mode g (K + d) mem o (reachedL mode g (K + d) ops) .delivery)
-      × (answerL mode g K o (reachedL mode g K ops) ≡ done → replyL mode g K mem o (reachedL mode g K ops) ≡ replyL mode g (K + d) mem o (reachedL mode g (K + d) ops))
-  same-until mem ops o f = rw (one-state ops f) (refl, λ e. ap (λ (n : ℕ). record { answer = n; delivery = givesL g mem (reachedL mode g K ops) }) (e ∙ sym (alike o (reachedL mode g K ops) e .0)))

@@ -16,11 +16,10 @@ pub mod LiveRows
 pub mod Serves
 pub mod Sim
 pub mod Final
-pub mod Ring
 -- The ledger.
 pub mod Books
 pub mod Past
-pub mod Exact
+pub mod Waiting
 pub mod Deeper
 -- What the crates above cite.
 pub mod Port

@@ -2,14 +2,13 @@
 use mathlib.Core.Path.{_≡_, refl, sym, ap, _∙_}
 use mathlib.Core.Bool.{Bool, true, false, cond}
 use mathlib.Core.List.{List, [], _∷_, _++_}
-use mathlib.Core.Logic.{_≢_}
 use Prim.Native.Nat.{ℕ, suc, _+_, _-_}
 use native.Mathlib.Nat.{add-zero, zero-add}
 use native.Mathlib.Omega.{arith}
 use lib.ListN.{length, drop}
 use lib.Seq.{drop-drop}
 use Rattle.theory.proofs.Test.{same, same-refl, same-false}
-use Rattle.theory.proofs.Operations.{Op, idle, read, write, Setup, unready, word, owed, done, dropped, stopping}
+use Rattle.theory.proofs.Operations.{Op, idle, read, Setup, word, done, dropped, stopping}
 use Rattle.theory.proofs.Calls.{after, after-append}
 use Rattle.theory.proofs.Ledger.{Ledger, Line, goes, stops, pastOf, Goes, servedL, retiredL, leaving, asking, free, given, noted, sram, owedL, givesL, cycleL, answerL, freshL, reachedL}
 
@@ -92,21 +91,6 @@ module _ {W : Type 0} (mode : Bool) (g : Setup) (K : ℕ) where
 
 ------------------------------------------------------------------------
 -- Delivery
-
-module _ {W : Type 0} (mem : ℕ → W) where
-  owed-ready : (o : Op W) (v : ℕ → W) → owed o v ≢ unready
-  owed-ready idle v p = let z : _≡_ {A = ℕ} 0 1 = cc p in omega arith
-  owed-ready (read a) v p = let z : _≡_ {A = ℕ} 0 1 = cc p in omega arith
-  owed-ready (write a w) v p = let z : _≡_ {A = ℕ} 0 1 = cc p in omega arith
-
-  ready : (p : List (Op W)) → owedL mem p ≢ unready
-  ready [] p = let z : _≡_ {A = ℕ} 0 1 = cc p in omega arith
-  ready (o ∷ earlier) p = owed-ready o (sram mem earlier) p
-
-  -- the ledger never delivers unready
-  pub never-unready : (g : Setup) (x : Line W) → givesL g mem x ≢ unready
-  never-unready g (goes l) = ready (drop (g .delay - 1) (l .past))
-  never-unready g (stops l) = ready []
 
 module _ {W : Type 0} (mode : Bool) (g : Setup) (K : ℕ) (mem : ℕ → W) where
   gives-owed : (x : Line W) → Goes x → givesL g mem x ≡ owedL mem (drop (g .delay - 1) (pastOf x))

@@ -3,23 +3,19 @@
 -- For every legal setup, in both modes, over any words and any bank rule. The machine is that of Concrete.antt, the ledger that of Ledger.antt:
 --   same-reply      answer (0 taken, 5 dropped, 6 stops, 7 was stopped) and delivery of the next call are the ledger's
 --   same-state      the machine is on exactly where the ledger goes; going or stopped, each buffer holds placed less served entries
---   never-unready   no call delivers unready
 --   turn-position   of a going machine: turn and position are the number of operations passed, modulo m and C
---   Tracks          the same for operations that are chosen as one goes: it holds of a fresh start, and every call keeps it
--- What the ledger's replies mean is in Past.antt (a read taken leaves delay cycles later), in Exact.antt (5 and 6 exactly when) and in Depths.antt.
-use mathlib.Core.Path.{_≡_, refl, sym, ap, _∙_}
-use mathlib.Core.Logic.{_≢_}
+-- What the ledger's replies mean is in Past.antt (a read taken leaves delay cycles later), in Waiting.antt (no more than K wait at a bank) and in Depths.antt.
+use mathlib.Core.Path.{_≡_, refl, sym, _∙_}
 use mathlib.Core.Bool.{Bool}
 use mathlib.Core.List.{List, [], _∷_, _++_}
 use Prim.Native.Nat.{ℕ, suc, _%_}
 use lib.ListN.{length}
-use Rattle.theory.proofs.Operations.{Op, Reply, unready}
+use Rattle.theory.proofs.Operations.{Op}
 use Rattle.theory.proofs.Machine.{Run, run}
 use Rattle.theory.proofs.Machine as M
-use Rattle.theory.proofs.Calls.{after-last, run-after, offered, offered-before, offered-last}
-use Rattle.theory.proofs.Concrete.{Config, Legal, setup, CSt, CRun, on, off, freshC, cycleC, replyC, runC, reachedC}
-use Rattle.theory.proofs.Ledger.{Line, goes, stops, waiting, freshL, cycleL, replyL, ledger, reachedL}
-use Rattle.theory.proofs.Past.{never-unready as ledger-ready}
+use Rattle.theory.proofs.Calls.{run-after, offered, offered-before, offered-last}
+use Rattle.theory.proofs.Concrete.{Config, Legal, setup, CSt, CRun, on, off, cycleC, replyC, runC, reachedC}
+use Rattle.theory.proofs.Ledger.{Line, goes, stops, waiting, cycleL, replyL, ledger, reachedL}
 use Rattle.theory.proofs.Runs.{any}
 use Rattle.theory.proofs.Sim.{same-length}
 use Rattle.theory.proofs.Final.{SimRun, ticks, sim-run, sim-reply}
@@ -49,9 +45,6 @@ module _ (W : Type 0) (mode : Bool) (k : Config) (K : ℕ) (l : Legal k K) (mem 
       by-cycle =
           sim-reply W mode k K l mem (offered (ops ++ o ∷ [])) (λ a. Unit {0}) (λ t. any (offered (ops ++ o ∷ []) t)) (length ops)
           ∙ books-reply W mode (setup k) K mem (offered (ops ++ o ∷ [])) (k .m) (ticks k K l) (l .fits) (l .delays) (length ops)
-
-  pub never-unready : (ops : List (Op W)) (o : Op W) → replyC mode k K o (reachedC mode k K mem ops) .delivery ≢ unready
-  never-unready ops o p = ledger-ready mem (setup k) (reachedL mode (setup k) K ops) (sym (ap (λ (r : Reply W). r .delivery) (same-reply ops o)) ∙ p)
 
 ------------------------------------------------------------------------
 -- States
@@ -94,24 +87,3 @@ module _ (W : Type 0) (mode : Bool) (k : Config) (K : ℕ) (l : Legal k K) (mem 
       go : (s : Run W) → SimRun W k (length ops) (on c) s → (c .turn ≡ length ops % k .m) × (c .pos ≡ length ops % suc (k .rest))
       go (M.on s) i = (i .turns, i .places)
       go (M.off s) i = absurd i
-
-------------------------------------------------------------------------
--- Call by call
-
-module _ (W : Type 0) (mode : Bool) (k : Config) (K : ℕ) (mem : ℕ → W) where
-  -- both have come from a fresh start by the same operations
-  abbrev pub Tracks : CRun W → Line W → Type 0
-  Tracks c x = (ops : List (Op W)) × (c ≡ reachedC mode k K mem ops) × (x ≡ reachedL mode (setup k) K ops)
-
-  pub tracks-fresh : Tracks (on (freshC k mem)) freshL
-  tracks-fresh = ([], refl, refl)
-
-  pub tracks-cycle : (o : Op W) (c : CRun W) (x : Line W) → Tracks c x → Tracks (cycleC mode k K o c) (cycleL mode (setup k) K o x)
-  tracks-cycle o c x i = (i .0 ++ o ∷ [], rw (i .1) (sym (after-last (cycleC mode k K) (i .0) o (on (freshC k mem)))), rw (i .2) (sym (after-last (cycleL mode (setup k) K) (i .0) o freshL)))
-
-module _ (W : Type 0) (mode : Bool) (k : Config) (K : ℕ) (l : Legal k K) (mem : ℕ → W) where
-  pub tracks-reply : (o : Op W) (c : CRun W) (x : Line W) → Tracks W mode k K mem c x → replyC mode k K o c ≡ replyL mode (setup k) K mem o x
-  tracks-reply o c x i = rw (i .1, i .2) (same-reply W mode k K l mem (i .0) o)
-
-  pub tracks-state : (c : CRun W) (x : Line W) → Tracks W mode k K mem c x → Matches c x
-  tracks-state c x i = rw (i .1, i .2) (same-state W mode k K l mem (i .0))
