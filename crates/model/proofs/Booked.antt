@@ -22,7 +22,7 @@ use Rattle.port.specs.declared.Delivery.the-variants.{None}
 use Rattle.port.specs.declared.Reply.{Reply}
 use Rattle.model.specs.Calls.{addressOk}
 use Rattle.model.specs.Sram.{due}
-use Rattle.model.specs.Ledger.{Ledger, ledger, freshLedger, waits, serviced, Need, nowhere, at, retires, arrives, full, given, noted, replied, landed, passing, entered}
+use Rattle.model.specs.Ledger.{Ledger, ledger, freshLedger, waits, serviced, Need, nowhere, at, retires, arrives, full, given, noted, replied, landed, ended, entered}
 use Rattle.model.proofs.Config.{bankNumbered, configOf, shownOp, shownDelivery}
 use Rattle.model.proofs.Cells.{Below, Within, ok-below, within-drop, map-drop, pick-cond, due-owed}
 use Rattle.model.proofs.Needs.{Asks, retires-leaving, arrives-asking}
@@ -169,7 +169,7 @@ module _ (s : Setup) (start : Address → ℕ) (op : Operation) (l : Ledger) whe
   entered-refused h k = rw (h, k)
 
   pub entered-passes : l .halted ≡ false → addressOk s op ≡ true
-      → entered s start op l ≡ passing s op (due start (drop (s .delta - 1) (l .past))) (length (l .past) % 2 ^ 32) (serviced s l)
+      → entered s start op l ≡ ended s op (due start (drop (s .delta - 1) (l .past))) (length (l .past) % 2 ^ 32) (serviced s l)
   unfolding entered
   entered-passes h k = rw (h, k)
 
@@ -221,11 +221,11 @@ module _ (s : Setup) (stamp : ℕ) (d : Delivery) (d′ : operations.Delivery �
         asks : Asks s n n′
         asks = rw (i .past) (arrives-asking s r (l .past) (i .within) op h l refl)
 
-    call-passing : (l : Ledger) (y : theory.Ledger ℕ) → l .halted ≡ false → Agrees s l y → Holds s y
-        → Call (passing s op d stamp (serviced s l))
+    call-ended : (l : Ledger) (y : theory.Ledger ℕ) → l .halted ≡ false → Agrees s l y → Holds s y
+        → Call (ended s op d stamp (serviced s l))
         (answerL (merging s) (shared s) (s .k) (shownOp s op) (goes y))
         (cycleL (merging s) (shared s) (s .k) (shownOp s op) (goes y))
-    call-passing l y going i k =
+    call-ended l y going i k =
         call-picked (full s n l₁) (free (shared s) (s .k) n′ y₁) (full-free s l₁ y₁ i₁ n n′ asks k₁) _ _ stopping _ _ _
         (call stopping (ledger (l .past) (l .placed) (l₁ .served) true) (stops y₁) (agrees-marked s l₁ y₁ i₁) refl)
         (λ e.
@@ -260,7 +260,7 @@ pub booked-call : (s : Setup) → Ranges s → (mem : ℕ → ℕ) (op : Operati
     (cycleL (merging s) (setup (configOf s)) (s .k) (shownOp s op) x)
 booked-call s r mem op l (goes y) i k going ok =
     rw (entered-passes s (λ a. mem (cellOf s a .0)) op l going ok)
-    (call-passing s (length (l .past) % 2 ^ 32) (due (λ a. mem (cellOf s a .0)) (drop (s .delta - 1) (l .past))) (owedL mem (drop (s .delta - 1) (y .past)))
+    (call-ended s (length (l .past) % 2 ^ 32) (due (λ a. mem (cellOf s a .0)) (drop (s .delta - 1) (l .past))) (owedL mem (drop (s .delta - 1) (y .past)))
     (rw (i .book .past, ← (map-drop (shownOp s) (s .delta - 1) (l .past)))
     (due-owed s r mem (drop (s .delta - 1) (l .past)) (within-drop s (s .delta - 1) (l .past) (i .book .within))))
     r op (ok-below s op ok) l y going (i .book) k)

@@ -21,7 +21,7 @@ use Rattle.port.specs.declared.Delivery.{Delivery}
 use Rattle.port.specs.declared.Reply.{Reply}
 use Rattle.model.specs.Calls.{addressOk}
 use Rattle.model.specs.Sram.{wrote, touched, some, due}
-use Rattle.model.specs.Ledger.{Ledger, waits, serviced, Need, nowhere, at, retiring, retires, arrives, full, given, landed, passing, entered}
+use Rattle.model.specs.Ledger.{Ledger, waits, serviced, Need, nowhere, at, retiring, retires, arrives, full, given, landed, ended, entered}
 use Rattle.model.specs.Depths.{Deeper}
 use Rattle.model.proofs.Tests.{pick-good}
 use Rattle.model.proofs.Booked.{entered-halted, entered-refused, entered-passes}
@@ -102,9 +102,9 @@ module _ (s : Setup) where
         ne-eqb (waits l b) (s .k + d) (λ q. omega arith)
 
   -- what a passing call delivers, and its stamp, hang on no place
-  passing-gives : (op : Operation) (leaves : Delivery) (stamp : ℕ) (l : Ledger)
-      → (passing s op leaves stamp l .0 .delivery ≡ leaves) × (passing s op leaves stamp l .0 .stamp ≡ stamp)
-  passing-gives op leaves stamp l =
+  ended-gives : (op : Operation) (leaves : Delivery) (stamp : ℕ) (l : Ledger)
+      → (ended s op leaves stamp l .0 .delivery ≡ leaves) × (ended s op leaves stamp l .0 .stamp ≡ stamp)
+  ended-gives op leaves stamp l =
       pick-good Gives (full s (retires s l) l) (refl, refl)
       (pick-good Gives (full s (arrives s op (given (retires s l) l)) (given (retires s l) l)) (refl, refl) (refl, refl))
     where
@@ -149,9 +149,9 @@ module _ (s : Setup) (d : ℕ) where
         (alike-picked (full s (arrives s op l) l) (full (deepened s d) (arrives s op l) l) _ _ _
         (λ e. f (rw e)) (roomier s l k d (arrives s op l) (arrives-housed s op l)) (λ e. refl))
 
-    alike-passing : (l : Ledger) → Bounded s l → passing s op leaves stamp l .0 .answer ≢ dropped → passing s op leaves stamp l .0 .answer ≢ stopping
-        → passing (deepened s d) op leaves stamp l ≡ passing s op leaves stamp l
-    alike-passing l k f g =
+    alike-ended : (l : Ledger) → Bounded s l → ended s op leaves stamp l .0 .answer ≢ dropped → ended s op leaves stamp l .0 .answer ≢ stopping
+        → ended (deepened s d) op leaves stamp l ≡ ended s op leaves stamp l
+    alike-ended l k f g =
         rw (same-retires l)
         (alike-picked (full s (retires s l) l) (full (deepened s d) (retires s l) l) _ _ _
         (λ e. g (rw e)) (roomier s l k d (retires s l) (retires-housed s l))
@@ -161,8 +161,8 @@ module _ (s : Setup) (d : ℕ) where
     -- refused or stopped, the two reply alike, and the call leaves both as they were; else they pass a cycle
     either : (P : Reply × Ledger → Reply × Ledger → Type 0)
         → ((e : Reply × Ledger) → P e e)
-        → P (passing (deepened s d) op (due start (drop (s .delta - 1) (l .past))) (length (l .past) % 2 ^ 32) (serviced s l))
-        (passing s op (due start (drop (s .delta - 1) (l .past))) (length (l .past) % 2 ^ 32) (serviced s l))
+        → P (ended (deepened s d) op (due start (drop (s .delta - 1) (l .past))) (length (l .past) % 2 ^ 32) (serviced s l))
+        (ended s op (due start (drop (s .delta - 1) (l .past))) (length (l .past) % 2 ^ 32) (serviced s l))
         → P (entered (deepened s d) start op l) (entered s start op l)
     either P same passes = go (l .halted) (addressOk s op) refl refl
       where
@@ -176,7 +176,7 @@ module _ (s : Setup) (d : ℕ) where
         → entered (deepened s d) start op l ≡ entered s start op l
     alike-entered k =
         either (λ e₂ e₁. e₁ .0 .answer ≢ dropped → e₁ .0 .answer ≢ stopping → e₂ ≡ e₁) (λ e f g. refl)
-        (alike-passing op (due start (drop (s .delta - 1) (l .past))) (length (l .past) % 2 ^ 32) (serviced s l) (bounded-serviced s l k))
+        (alike-ended op (due start (drop (s .delta - 1) (l .past))) (length (l .past) % 2 ^ 32) (serviced s l) (bounded-serviced s l k))
 
     -- any call: the deeper, in the same state, delivers alike, with the same stamp
     pub gives-alike : (entered (deepened s d) start op l .0 .delivery ≡ entered s start op l .0 .delivery)
@@ -185,6 +185,6 @@ module _ (s : Setup) (d : ℕ) where
         either (λ e₂ e₁. (e₂ .0 .delivery ≡ e₁ .0 .delivery) × (e₂ .0 .stamp ≡ e₁ .0 .stamp)) (λ e. (refl, refl))
         (let leaves = due start (drop (s .delta - 1) (l .past)) in
         let stamp = length (l .past) % 2 ^ 32 in
-        let p₁ = passing-gives s op leaves stamp (serviced s l) in
-        let p₂ = passing-gives (deepened s d) op leaves stamp (serviced s l) in
+        let p₁ = ended-gives s op leaves stamp (serviced s l) in
+        let p₂ = ended-gives (deepened s d) op leaves stamp (serviced s l) in
         (p₂ .0 ∙ sym (p₁ .0), p₂ .1 ∙ sym (p₁ .1)))

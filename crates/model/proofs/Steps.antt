@@ -20,7 +20,7 @@ use Rattle.model.specs.Lent.{Lent, Buffers}
 use Rattle.model.specs.Cycle.{served, delivered, retired, arrived, Arrived, nextState, stoppedState, finished, going, afterService, withMemory, passed}
 use Rattle.model.specs.Calls.{addressOk}
 use Rattle.model.specs.Sram.{due}
-use Rattle.model.specs.Ledger.{Ledger, ledger, serviced, retires, arrives, Need, nowhere, at, full, given, noted, replied, landed, passing, entered}
+use Rattle.model.specs.Ledger.{Ledger, ledger, serviced, retires, arrives, Need, nowhere, at, full, given, noted, replied, landed, ended, entered}
 use Rattle.model.specs.Promises as P
 
 ------------------------------------------------------------------------
@@ -87,11 +87,11 @@ module _ (s : Setup) (op : Operation) (d : Delivery) (stamp : ℕ) where
   landed-past l true w e = rw e
   landed-past l false w e = rw e (ap (λ (p : List Operation). op ∷ p) (given-past (arrives s op l) l))
 
-  passing-past : (l : Ledger) (f : Bool) (w : Reply × Ledger)
+  ended-past : (l : Ledger) (f : Bool) (w : Reply × Ledger)
       → w ≡ pick f (replied stopping d stamp, ledger (l .past) (l .placed) (l .served) true) (landed s op d stamp (given (retires s l) l))
       → w .1 .past ≡ P.passing (w .0 .answer) op (l .past)
-  passing-past l true w e = rw e
-  passing-past l false w e =
+  ended-past l true w e = rw e
+  ended-past l false w e =
       let m : Ledger = given (retires s l) l in
       landed-past m (full s (arrives s op m) m) w e ∙ ap (P.passing (w .0 .answer) op) (given-past (retires s l) l)
 
@@ -104,8 +104,8 @@ module _ (s : Setup) (start : Address → ℕ) (op : Operation) (l : Ledger) whe
       m = serviced s l
 
       go : (h a : Bool)
-          → pick h (replied stopped None 0, l) (pick a (passing s op (due start (drop (s .delta - 1) (l .past))) (length (l .past) % 2 ^ 32) m) (replied badAddress None 0, l)) .1 .past
-          ≡ P.passing (pick h (replied stopped None 0, l) (pick a (passing s op (due start (drop (s .delta - 1) (l .past))) (length (l .past) % 2 ^ 32) m) (replied badAddress None 0, l)) .0 .answer) op (l .past)
+          → pick h (replied stopped None 0, l) (pick a (ended s op (due start (drop (s .delta - 1) (l .past))) (length (l .past) % 2 ^ 32) m) (replied badAddress None 0, l)) .1 .past
+          ≡ P.passing (pick h (replied stopped None 0, l) (pick a (ended s op (due start (drop (s .delta - 1) (l .past))) (length (l .past) % 2 ^ 32) m) (replied badAddress None 0, l)) .0 .answer) op (l .past)
       go true a = refl
-      go false true = passing-past s op (due start (drop (s .delta - 1) (l .past))) (length (l .past) % 2 ^ 32) m (full s (retires s m) m) _ refl
+      go false true = ended-past s op (due start (drop (s .delta - 1) (l .past))) (length (l .past) % 2 ^ 32) m (full s (retires s m) m) _ refl
       go false false = refl
