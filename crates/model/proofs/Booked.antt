@@ -8,21 +8,20 @@ use mathlib.Core.List.{List, _∷_, map}
 use lib.Dec.{eqb, ltb}
 use lib.ListN.{length, drop, length-map}
 use borrow.Author.Tests.{eq-eqb, ne-eqb, lt-ltb, le-ltb}
-use Rattle.answers.specs.Answers.{done, badAddress, dropped, stopping, stopped}
+use Rattle.answers.specs.Answers.{done, dropped, stopping}
 use Rattle.setup.specs.Choice.{pick}
 use Rattle.setup.specs.Setup.{Ranges, banksOf, merging}
 use Rattle.setup.specs.declared.Setup.{Setup}
 use Rattle.map.specs.Map.{cellOf}
 use Rattle.map.proofs.Split.{bank-below}
-use Rattle.map.specs.declared.Address.{Address}
 use Rattle.port.specs.declared.Operation.{Operation}
 use Rattle.port.specs.declared.Operation.the-variants.{Idle}
 use Rattle.port.specs.declared.Delivery.{Delivery}
-use Rattle.port.specs.declared.Delivery.the-variants.{None}
 use Rattle.port.specs.declared.Reply.{Reply}
 use Rattle.model.specs.Calls.{addressOk}
 use Rattle.model.specs.Sram.{due}
 use Rattle.model.specs.Ledger.{Ledger, ledger, freshLedger, waits, serviced, Need, nowhere, at, retires, arrives, full, given, noted, replied, landed, ended, entered}
+use Rattle.model.proofs.Entered.{entered-passes, given-halted}
 use Rattle.model.proofs.Config.{bankNumbered, configOf, shownOp, shownDelivery}
 use Rattle.model.proofs.Cells.{Below, Within, ok-below, within-drop, map-drop, pick-cond, due-owed}
 use Rattle.model.proofs.Needs.{Asks, retires-leaving, arrives-asking}
@@ -157,23 +156,6 @@ module _ (s : Setup) (y : theory.Ledger ℕ) (k : Holds s y) where
       go t (isnt p) u q e′ = absurd (false≢true e′)
 
 ------------------------------------------------------------------------
--- The calls that pass no cycle, and the one that does
-
-module _ (s : Setup) (start : Address → ℕ) (op : Operation) (l : Ledger) where
-  pub entered-halted : l .halted ≡ true → entered s start op l ≡ (replied stopped None 0, l)
-  unfolding entered
-  entered-halted h = rw h
-
-  pub entered-refused : l .halted ≡ false → addressOk s op ≡ false → entered s start op l ≡ (replied badAddress None 0, l)
-  unfolding entered
-  entered-refused h k = rw (h, k)
-
-  pub entered-passes : l .halted ≡ false → addressOk s op ≡ true
-      → entered s start op l ≡ ended s op (due start (drop (s .delta - 1) (l .past))) (length (l .past) % 2 ^ 32) (serviced s l)
-  unfolding entered
-  entered-passes h k = rw (h, k)
-
-------------------------------------------------------------------------
 -- What a call returns and leaves, beside the theory's reply and line
 
 pub record CallAgrees (s : Setup) (stamp : ℕ) (e : Reply × Ledger) (reply : operations.Reply ℕ) (x : Line ℕ) : Type 0 where
@@ -181,10 +163,6 @@ pub record CallAgrees (s : Setup) (stamp : ℕ) (e : Reply × Ledger) (reply : o
   pub delivery : shownDelivery (e .0 .delivery) ≡ reply .delivery
   pub stamped : e .0 .stamp ≡ stamp
   pub left : Booked s (e .1) x
-
-given-halted : (n : Need) (l : Ledger) → given n l .halted ≡ l .halted
-given-halted nowhere l = refl
-given-halted (at b) l = refl
 
 module _ (s : Setup) (stamp : ℕ) (d : Delivery) (d′ : operations.Delivery ℕ) (q : shownDelivery d ≡ d′) where
   abbrev Call : Reply × Ledger → ℕ → Line ℕ → Type 0

@@ -18,6 +18,7 @@ pub mod ShownBuffers
 pub mod ShownService
 pub mod ShownCycle
 pub mod Shows
+pub mod Entered
 pub mod Cells
 pub mod Needs
 pub mod Booked
@@ -25,9 +26,7 @@ pub mod Starts
 pub mod Steps
 pub mod Tracks
 pub mod Signed
-pub mod BookedRuns
-pub mod WritesKept
-pub mod Deepened
+pub mod Deeper
 pub mod Depths
 pub mod SignedDepths
 pub mod Examples

@@ -43,7 +43,7 @@ use Rattle.model.proofs.Config.{configOf, legal, shownOp}
 use Rattle.model.proofs.Shown.{shown}
 use Rattle.model.proofs.Shows.{waiting-shown, on-shown}
 use Rattle.model.proofs.Booked.{booked-waits}
-use Rattle.model.proofs.BookedRuns.{booked-append}
+use Rattle.model.proofs.Entered.{booked-append}
 use Rattle.model.proofs.Tracks.{Tracks, tracks-fresh, tracks-reply, tracks-after}
 
 ------------------------------------------------------------------------

@@ -42,7 +42,8 @@ use Rattle.model.proofs.Config.{configOf, legal, shownOp, shownDelivery
 use Rattle.model.proofs.Shown.{shown, shownRun}
 use Rattle.model.proofs.Shows.{fresh-shown, passed-delivery}
 use Rattle.model.proofs.Shows as shows
-use Rattle.model.proofs.Booked.{Booked, haltedOf, CallAgrees, booked-fresh, booked-call, entered-halted, entered-refused}
+use Rattle.model.proofs.Entered.{entered-halted, entered-refused}
+use Rattle.model.proofs.Booked.{Booked, haltedOf, CallAgrees, booked-fresh, booked-call}
 
 ------------------------------------------------------------------------
 -- Small laws

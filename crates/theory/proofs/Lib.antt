@@ -20,7 +20,5 @@ pub mod Final
 pub mod Books
 pub mod Past
 pub mod Waiting
-pub mod Deeper
 -- What the crates above cite.
 pub mod Port
-pub mod Depths

@@ -1,16 +1,15 @@
--- The three ways of a cycle on the ledger; the past that lists of operations leave; a read that is taken leaves delay cycles later. Assumes nothing.
-use mathlib.Core.Path.{_≡_, refl, sym, ap, _∙_}
+-- The three ways of a cycle on the ledger; the past that lists of operations leave. Assumes nothing.
+use mathlib.Core.Path.{_≡_, refl, sym, _∙_}
 use mathlib.Core.Bool.{Bool, true, false, cond}
-use mathlib.Core.List.{List, [], _∷_, _++_}
-use Prim.Native.Nat.{ℕ, suc, _+_, _-_}
+use mathlib.Core.List.{List, [], _∷_}
+use Prim.Native.Nat.{ℕ, _+_, _-_}
 use native.Mathlib.Nat.{add-zero, zero-add}
 use native.Mathlib.Omega.{arith}
-use lib.ListN.{length, drop}
-use lib.Seq.{drop-drop}
+use lib.ListN.{length}
 use Rattle.theory.proofs.Test.{same, same-refl, same-false}
-use Rattle.theory.proofs.Operations.{Op, idle, read, Setup, word, done, dropped, stopping}
-use Rattle.theory.proofs.Calls.{after, after-append}
-use Rattle.theory.proofs.Ledger.{Ledger, Line, goes, stops, pastOf, Goes, servedL, retiredL, leaving, asking, free, given, noted, sram, owedL, givesL, cycleL, answerL, freshL, reachedL}
+use Rattle.theory.proofs.Operations.{Op, idle, Setup, done, dropped, stopping}
+use Rattle.theory.proofs.Calls.{after}
+use Rattle.theory.proofs.Ledger.{Ledger, Line, goes, stops, pastOf, Goes, servedL, retiredL, leaving, asking, free, given, noted, cycleL, answerL, freshL, reachedL}
 
 ------------------------------------------------------------------------
 -- The ways of a cycle
@@ -55,13 +54,6 @@ module _ {W : Type 0} (mode : Bool) (g : Setup) (K : ℕ) where
   cycle-past o (goes l) h = way-past o l (answerL mode g K o (goes l)) (cycleL mode g K o (goes l)) (way mode g K o l) h
   cycle-past o (stops l) h = absurd h
 
-  after-past : (more : List (Op W)) (x : Line W) → Goes (after (cycleL mode g K) more x) → drop (length more) (pastOf (after (cycleL mode g K) more x)) ≡ pastOf x
-  after-past [] x h = refl
-  after-past (o ∷ more) x h =
-      let n : suc (length more) ≡ length more + 1 = omega arith in
-      let e = cycle-past o x (goes-all-along more (cycleL mode g K o x) h) in
-      rw (n, ← (drop-drop 1 (length more) (pastOf (after (cycleL mode g K) more (cycleL mode g K o x)))), after-past more (cycleL mode g K o x) h, e)
-
   after-longer : (more : List (Op W)) (x : Line W) → Goes (after (cycleL mode g K) more x) → length (pastOf (after (cycleL mode g K) more x)) ≡ length (pastOf x) + length more
   after-longer [] x h = sym (add-zero _)
   after-longer (o ∷ more) x h =
@@ -71,42 +63,3 @@ module _ {W : Type 0} (mode : Bool) (g : Setup) (K : ℕ) where
   -- as many operations as were offered have passed
   pub past-long : (ops : List (Op W)) → Goes (reachedL mode g K ops) → length (pastOf (reachedL mode g K ops)) ≡ length ops
   past-long ops h = after-longer ops freshL h ∙ zero-add (length ops)
-
-  -- of an operation that is taken: the port goes before and after it
-  way-goes : (o : Op W) (l : Ledger W) (n : ℕ) (x : Line W) → Way mode g K o l n x → n ≡ done → Goes x
-  way-goes o l n x (takes p q) e = tt
-  way-goes o l n x (drops p q) e = tt
-  way-goes o l n x (halts p) e = omega arith
-
-  taken-goes-on : (o : Op W) (x : Line W) → answerL mode g K o x ≡ done → Goes (cycleL mode g K o x)
-  taken-goes-on o (goes l) e = way-goes o l (answerL mode g K o (goes l)) (cycleL mode g K o (goes l)) (way mode g K o l) e
-  taken-goes-on o (stops l) e = omega arith
-
-  pub taken-goes : (o : Op W) (x : Line W) → answerL mode g K o x ≡ done → Goes x
-  taken-goes o x e = goes-before o x (taken-goes-on o x e)
-
-  -- and it is noted
-  pub taken-past : (o : Op W) (x : Line W) → answerL mode g K o x ≡ done → pastOf (cycleL mode g K o x) ≡ o ∷ pastOf x
-  taken-past o x e = cycle-past o x (taken-goes-on o x e) ∙ rw (e, same-refl done)
-
-------------------------------------------------------------------------
--- Delivery
-
-module _ {W : Type 0} (mode : Bool) (g : Setup) (K : ℕ) (mem : ℕ → W) where
-  gives-owed : (x : Line W) → Goes x → givesL g mem x ≡ owedL mem (drop (g .delay - 1) (pastOf x))
-  gives-owed (goes l) h = refl
-  gives-owed (stops l) h = absurd h
-
-  -- a read of a that is taken leaves delay cycles later, if the port still goes, with the ideal SRAM's word of a at its own cycle
-  pub read-leaves : (ops : List (Op W)) (a : ℕ) → answerL mode g K (read a) (reachedL mode g K ops) ≡ done → (more : List (Op W)) → suc (length more) ≡ g .delay
-      → Goes (reachedL mode g K (ops ++ read a ∷ more)) → givesL g mem (reachedL mode g K (ops ++ read a ∷ more)) ≡ word (sram mem (pastOf (reachedL mode g K ops)) a)
-  read-leaves ops a t more d h = gives-owed (reachedL mode g K (ops ++ read a ∷ more)) h ∙ ap (owedL mem) back
-    where
-      split : reachedL mode g K (ops ++ read a ∷ more) ≡ after (cycleL mode g K) more (cycleL mode g K (read a) (reachedL mode g K ops))
-      split = after-append (cycleL mode g K) ops (read a ∷ more) freshL
-
-      back : drop (g .delay - 1) (pastOf (reachedL mode g K (ops ++ read a ∷ more))) ≡ read a ∷ pastOf (reachedL mode g K ops)
-      back =
-          let n : g .delay - 1 ≡ length more = omega arith in
-          rw (n, split) (after-past mode g K more (cycleL mode g K (read a) (reachedL mode g K ops)) (rw split at h))
-          ∙ taken-past mode g K (read a) (reachedL mode g K ops) t

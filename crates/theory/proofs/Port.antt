@@ -4,7 +4,6 @@
 --   same-reply      answer (0 taken, 5 dropped, 6 stops, 7 was stopped) and delivery of the next call are the ledger's
 --   same-state      the machine is on exactly where the ledger goes; going or stopped, each buffer holds placed less served entries
 --   turn-position   of a going machine: turn and position are the number of operations passed, modulo m and C
--- What the ledger's replies mean is in Past.antt (a read taken leaves delay cycles later), in Waiting.antt (no more than K wait at a bank) and in Depths.antt.
 use mathlib.Core.Path.{_≡_, refl, sym, _∙_}
 use mathlib.Core.Bool.{Bool}
 use mathlib.Core.List.{List, [], _∷_, _++_}
