@@ -98,6 +98,11 @@ module _ (s : Setup) (op : Operation) (d : Delivery) (stamp : ℕ) (l : Ledger) 
   way-delivers e (drops p q) = refl
   way-delivers e (halts p) = refl
 
+  pub way-stamps : (e : Reply × Ledger) → Way e → e .0 .stamp ≡ stamp
+  way-stamps e (takes p q) = refl
+  way-stamps e (drops p q) = refl
+  way-stamps e (halts p) = refl
+
   pub way-passes : (e : Reply × Ledger) → Way e → Passes (e .0 .answer)
   way-passes e (takes p q) = inl refl
   way-passes e (drops p q) = inr (inl refl)

@@ -20,8 +20,7 @@ pub mod ShownCycle
 pub mod Shows
 pub mod Entered
 pub mod Cells
-pub mod Needs
-pub mod Booked
+pub mod Books
 pub mod Starts
 pub mod Steps
 pub mod Tracks
