@@ -1,7 +1,7 @@
 -- One call of the ledger: the ways it can go, what it tells, how many wait after it; and lists of calls. Assumes nothing.
 use Prim.Native.Nat.{ℕ, _+_, _-_, _%_, _^_, _≤_}
 use native.Mathlib.Omega.{arith}
-use mathlib.Core.Path.{_≡_, refl}
+use mathlib.Core.Path.{_≡_, refl, ap, _∙_}
 use mathlib.Core.Logic.{_≢_, inl, inr}
 use mathlib.Core.Bool.{Bool, true, false}
 use mathlib.Core.List.{List, [], _∷_, _++_}
@@ -20,7 +20,7 @@ use Rattle.port.specs.declared.Reply.{Reply}
 use Rattle.model.specs.Calls.{addressOk}
 use Rattle.model.specs.Sram.{due}
 use Rattle.model.specs.Ledger.{Ledger, ledger, waits, serviced, Need, nowhere, at, retires, arrives, full, given, noted, replied, ended, entered}
-use Rattle.model.specs.Promises.{booked, Passes}
+use Rattle.model.specs.Promises.{booked, passing, Passes}
 
 ------------------------------------------------------------------------
 -- The calls that pass no cycle, and the one that does
@@ -107,6 +107,18 @@ module _ (s : Setup) (op : Operation) (d : Delivery) (stamp : ℕ) (l : Ledger) 
   way-passes e (takes p q) = inl refl
   way-passes e (drops p q) = inr (inl refl)
   way-passes e (halts p) = inr (inr refl)
+
+  -- past after it: the operation where it is taken, idle where it is dropped, else as before
+  way-past : (e : Reply × Ledger) → Way e → e .1 .past ≡ passing (e .0 .answer) op (l .past)
+  way-past e (takes p q) = ap (λ (past : List Operation). op ∷ past) (given-past (arrives s op (retiredTo s l)) (retiredTo s l) ∙ given-past (retires s l) l)
+  way-past e (drops p q) = ap (λ (past : List Operation). Idle ∷ past) (given-past (retires s l) l)
+  way-past e (halts p) = refl
+
+pub entered-past : (s : Setup) (start : Address → ℕ) (op : Operation) (l : Ledger)
+    → entered s start op l .1 .past ≡ passing (entered s start op l .0 .answer) op (l .past)
+entered-past s start op l =
+    entered-by s start op l (λ e. e .1 .past ≡ passing (e .0 .answer) op (l .past)) (λ h. refl) (λ h k. refl)
+    (λ h k. way-past s op _ _ (serviced s l) _ (way s op _ _ (serviced s l)))
 
 ------------------------------------------------------------------------
 -- No more than K wait at a bank

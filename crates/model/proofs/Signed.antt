@@ -38,12 +38,12 @@ use Rattle.model.proofs.Range.{ready-lengths, ready-numbers}
 use Rattle.model.proofs.Ready.{c-least-one}
 use Rattle.model.proofs.Calls.{checked-ranges}
 use Rattle.model.proofs.Starts.{starts-checked}
-use Rattle.model.proofs.Steps.{passed-answer, entered-past}
+use Rattle.model.proofs.Steps.{passed-answer}
 use Rattle.model.proofs.Config.{configOf, legal}
 use Rattle.model.proofs.Shown.{shown}
 use Rattle.model.proofs.Shows.{waiting-shown, on-shown}
 use Rattle.model.proofs.Books.{BooksRun, books-waits, books-length}
-use Rattle.model.proofs.Entered.{booked-append}
+use Rattle.model.proofs.Entered.{entered-by, entered-past, way, way-delivers, way-stamps, way-passes, booked-append}
 use Rattle.model.proofs.Tracks.{Tracks, tracks-fresh, tracks-reply, tracks-after}
 
 ------------------------------------------------------------------------
@@ -138,17 +138,13 @@ module _ (s : Setup) (start : Address → ℕ) (op : Operation) (l : Ledger) whe
   Tells : Reply → Type 0
   Tells r = (Passes (r .answer) × ((r .delivery ≡ d) × (r .stamp ≡ length (l .past) % 2 ^ 32))) ⊎ (((r .answer ≡ stopped) ⊎ (r .answer ≡ badAddress)) × (r .delivery ≡ None))
 
-  by-tells : (h a r f : Bool) → Tells (enteredBy h a r f .0)
-  unfolding Tells
-  by-tells true a r f = inr (inl refl, refl)
-  by-tells false false r f = inr (inr refl, refl)
-  by-tells false true true f = inl (inr (inr refl), (refl, refl))
-  by-tells false true false true = inl (inr (inl refl), (refl, refl))
-  by-tells false true false false = inl (inl refl, (refl, refl))
-
   entered-tells : Tells (entered s start op l .0)
+  unfolding Tells
   entered-tells =
-      subst (λ (e : Reply × Ledger). Tells (e .0)) (sym entered-tests) (by-tells (l .halted) (addressOk s op) (full s (retires s l₁) l₁) (full s (arrives s op l₂) l₂))
+      entered-by s start op l (λ e. Tells (e .0)) (λ h. inr (inl refl, refl)) (λ h k. inr (inr refl, refl))
+      (λ h k.
+      let y = way s op d (length (l .past) % 2 ^ 32) l₁ in
+      inl (way-passes s op _ _ l₁ _ y, (way-delivers s op _ _ l₁ _ y, way-stamps s op _ _ l₁ _ y)))
 
 stops-by : (h a r f : Bool) → (answerBy h a r f ≡ stopping) ↔ ((h ≡ false) × (a ≡ true) × (r ≡ true))
 stops-by true a r f = (λ e. absurd (omega arith), λ p. let z : _≡_ {A = ℕ} 0 1 = cc in absurd (omega arith))

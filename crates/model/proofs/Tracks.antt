@@ -38,12 +38,12 @@ use Rattle.theory.proofs.Port.{Matches, byCycle, by-fresh, by-next, same-reply,
 use Rattle.model.proofs.Ready.{passed-ready, fresh-ready}
 use Rattle.model.proofs.Calls.{refusal-ready, cycle-turn, checked-ranges}
 use Rattle.model.proofs.Starts.{starts-checked, starts-lengths, fresh-machine}
-use Rattle.model.proofs.Steps.{stateBy, passed-answer, passed-state, passed-stamp, entered-past}
+use Rattle.model.proofs.Steps.{stateBy, passed-answer, passed-state, passed-stamp}
 use Rattle.model.proofs.Config.{configOf, legal, shownOp, shownDelivery}
 use Rattle.model.proofs.Shown.{shown, shownRun}
 use Rattle.model.proofs.Shows.{fresh-shown, passed-delivery}
 use Rattle.model.proofs.Shows as shows
-use Rattle.model.proofs.Entered.{entered-halted, entered-refused, entered-passes, way, way-delivers, way-stamps, Held, held-entered}
+use Rattle.model.proofs.Entered.{entered-past, entered-halted, entered-refused, entered-passes, way, way-delivers, way-stamps, Held, held-entered}
 use Rattle.model.proofs.Cells.{ok-below}
 use Rattle.model.proofs.Books.{shared, BooksRun, books-fresh, cycle-books, gives-due}
 
