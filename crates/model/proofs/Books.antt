@@ -59,7 +59,8 @@ module _ (s : Setup) where
   Hist (suc t) [] row = ⊥
   Hist (suc t) (o ∷ p) row = (shownOp s o ≡ shape (row t)) × Below s o × Hist t p row
 
-  hist-same : (t : ℕ) (p : List Operation) (row row′ : ℕ → Row ℕ) → ((r : ℕ) → r < t → shape (row r) ≡ shape (row′ r)) → Hist t p row → Hist t p row′
+  hist-same : (t : ℕ) (p : List Operation) (row row′ : ℕ → Row ℕ) → ((r : ℕ) → r < t → shape (row r) ≡ shape (row′ r)) → Hist t p row
+      → Hist t p row′
   hist-same zero [] row row′ e h = tt
   hist-same zero (o ∷ p) row row′ e h = h
   hist-same (suc t) [] row row′ e h = h
@@ -78,7 +79,8 @@ module _ (s : Setup) where
   Oldest false [] x = ⊥
   Oldest false (o ∷ p) x = (shownOp s o ≡ shape x) × Below s o
 
-  hist-oldest : (n t : ℕ) (p : List Operation) (row : ℕ → Row ℕ) → Hist t p row → (y : Bool) → Says (t < suc n) y → Oldest y (drop n p) (row (t - suc n))
+  hist-oldest : (n t : ℕ) (p : List Operation) (row : ℕ → Row ℕ) → Hist t p row → (y : Bool) → Says (t < suc n) y
+      → Oldest y (drop n p) (row (t - suc n))
   hist-oldest zero zero [] row h y (is l) = tt
   hist-oldest (suc n) zero [] row h y (is l) = tt
   hist-oldest n zero [] row h y (isnt l) = absurd (omega arith)
@@ -112,7 +114,8 @@ module _ (s : Setup) where
     Looks row x nothing = x ≡ false
     Looks row x (there q) = (x ≡ true) × (names c (row q) ≡ true)
 
-    hist-look : (n t : ℕ) (p : List Operation) (row : ℕ → Row ℕ) → Hist t p row → Looks row (some (touched a) (take n p)) (look c row n t)
+    hist-look : (n t : ℕ) (p : List Operation) (row : ℕ → Row ℕ) → Hist t p row
+        → Looks row (some (touched a) (take n p)) (look c row n t)
     hist-look zero t p row h = refl
     hist-look (suc n) zero [] row h = refl
     hist-look (suc n) zero (o ∷ p) row h = absurd h
@@ -120,12 +123,14 @@ module _ (s : Setup) where
     hist-look (suc n) (suc t) (o ∷ p) row h =
         rw (row-touched o (h .1) (row t) (h .0)) (go (names c (row t)) refl (look c row n t) (hist-look n t p row (h .2)))
       where
-        go : (x : Bool) → names c (row t) ≡ x → (f : Found) → Looks row (some (touched a) (take n p)) f → Looks row (x || some (touched a) (take n p)) (cond x (there t) f)
+        go : (x : Bool) → names c (row t) ≡ x → (f : Found) → Looks row (some (touched a) (take n p)) f
+            → Looks row (x || some (touched a) (take n p)) (cond x (there t) f)
         go true e f k = (refl, e)
         go false e f k = k
 
     -- the ideal SRAM is the ledger's
-    hist-ideal : (mem : ℕ → ℕ) (did : ℕ → Op ℕ) (row : ℕ → Row ℕ) (t : ℕ) (p : List Operation) → Hist t p row → ((q : ℕ) → q < t → shape (row q) ≡ did q)
+    hist-ideal : (mem : ℕ → ℕ) (did : ℕ → Op ℕ) (row : ℕ → Row ℕ) (t : ℕ) (p : List Operation) → Hist t p row
+        → ((q : ℕ) → q < t → shape (row q) ≡ did q)
         → sram (λ x. mem (cellOf s x .0)) p a ≡ ideal mem did t c
     unfolding ideal
     hist-ideal mem did row zero [] h e = refl
@@ -145,7 +150,8 @@ module _ (s : Setup) where
     newest-due t (Write a w) p h k e = refl
     newest-due t (Read a) p h k e = ap word (sym (hist-ideal r a h mem did row t p k e))
 
-    hist-due : (n t : ℕ) (p : List Operation) → Hist t p row → ((q : ℕ) → q < t → shape (row q) ≡ did q) → (y : Bool) → Says (t < suc n) y
+    hist-due : (n t : ℕ) (p : List Operation) → Hist t p row → ((q : ℕ) → q < t → shape (row q) ≡ did q) → (y : Bool)
+        → Says (t < suc n) y
         → cond y nil (owed (did (t - suc n)) (ideal mem did (t - suc n))) ≡ shownDelivery (due start (drop n p))
     hist-due zero zero [] h e y (is l) = refl
     hist-due (suc n) zero [] h e y (is l) = refl
@@ -199,7 +205,8 @@ module _ (s : Setup) (t : ℕ) where
     push-books : (c : ℕ) (e : Entry ℕ) → Books s t (given (at c) l) (push c e m)
     push-books c e = record { hist = i .hist; counts = λ b h. rw (length-append (m .buf b) (ext c e b), ← (same-eqb c b)) (go b h (same c b)) }
       where
-        go : (b : ℕ) → b < banksOf s → (y : Bool) → l .placed b + pick y 1 0 ≡ l .served b + (length (m .buf b) + length (cond y (e ∷ []) []))
+        go : (b : ℕ) → b < banksOf s → (y : Bool)
+            → l .placed b + pick y 1 0 ≡ l .served b + (length (m .buf b) + length (cond y (e ∷ []) []))
         go b h true = let k = i .counts b h in omega arith
         go b h false = let k = i .counts b h in omega arith
 
@@ -248,12 +255,14 @@ module _ (s : Setup) (t : ℕ) where
   retire-row (wait c n) m = refl
 
   module _ (r : Ranges s) (l : Ledger) (m : St ℕ) (i : Books s t l m) (k : Held s l) where
-    shed-books : (c : ℕ) → c < banksOf s → (e : Entry ℕ) (x y : Bool) → room (s .k) c m ≡ y → BooksKept (pick x nowhere (at c)) l (shed x y c e m)
+    shed-books : (c : ℕ) → c < banksOf s → (e : Entry ℕ) (x y : Bool) → room (s .k) c m ≡ y
+        → BooksKept (pick x nowhere (at c)) l (shed x y c e m)
     shed-books c h e true y q = (refl, i)
     shed-books c h e false true q = (full-room l m i k c h ∙ ap not q, push-books l m i c e)
     shed-books c h e false false q = full-room l m i k c h ∙ ap not q
 
-    retired-books : (o : Operation) (p : List Operation) → Below s o → BooksKept (retiring s (take (s .c - 1) (l .past)) (o ∷ p)) l (retireOp (shownOp s o) m)
+    retired-books : (o : Operation) (p : List Operation) → Below s o
+        → BooksKept (retiring s (take (s .c - 1) (l .past)) (o ∷ p)) l (retireOp (shownOp s o) m)
     retired-books Idle p h = (refl, i)
     retired-books (Read a) p h = (refl, i)
     retired-books (Write a w) p h =
@@ -270,7 +279,8 @@ module _ (s : Setup) (t : ℕ) where
     retire-books : BooksKept (retires s l) l (retire (merging s) (shared s) (s .k) t m)
     retire-books = go (merging s)
       where
-        go : (mode : Bool) → BooksKept (pick mode (retiring s (take (s .c - 1) (l .past)) (drop (s .c - 1) (l .past))) nowhere) l (retire mode (shared s) (s .k) t m)
+        go : (mode : Bool)
+            → BooksKept (pick mode (retiring s (take (s .c - 1) (l .past)) (drop (s .c - 1) (l .past))) nowhere) l (retire mode (shared s) (s .k) t m)
         go false = (refl, i)
         go true = oldest-books (lt t (suc (s .c - 1))) (drop (s .c - 1) (l .past)) (hist-oldest s (s .c - 1) t (l .past) (m .row) (i .hist) _ (lt? _ _))
 
@@ -285,10 +295,12 @@ module _ (s : Setup) (t : ℕ) where
     only-arrives : (o : Operation) (x : Row ℕ) → Below s o → shownOp s o ≡ shape x → Arrives o nowhere (only x)
     only-arrives o x h e = (refl, note-books l m i o x h e)
 
-    needs-arrives : (c : ℕ) → c < banksOf s → (o : Operation) (en : Entry ℕ) (x : Row ℕ) → Below s o → shownOp s o ≡ shape x → Arrives o (at c) (needs c en x)
+    needs-arrives : (c : ℕ) → c < banksOf s → (o : Operation) (en : Entry ℕ) (x : Row ℕ) → Below s o → shownOp s o ≡ shape x
+        → Arrives o (at c) (needs c en x)
     needs-arrives c b o en x h e = rw (full-room l m i k c b) (go (room (s .k) c m))
       where
-        go : (y : Bool) → (y ≡ not (not y)) × Books s (suc t) (pick (not y) (noted Idle l) (noted o (given (at c) l))) (seat y t c en x m)
+        go : (y : Bool)
+            → (y ≡ not (not y)) × Books s (suc t) (pick (not y) (noted Idle l) (noted o (given (at c) l))) (seat y t c en x m)
         go true = (refl, note-books (given (at c) l) (push c en m) (push-books l m i c en) o x h e)
         go false = (refl, note-books l m i Idle none tt refl)
 
@@ -305,7 +317,8 @@ module _ (s : Setup) (t : ℕ) where
       read-arrives : Arrives (Read a) (at (bankAt s a)) (needs (bankAt s a) (rd cell t) (wait cell t))
       read-arrives = needs-arrives (bankAt s a) (bank-below s (cellOf s a)) (Read a) (rd cell t) (wait cell t) h refl
 
-      merge-arrives : (x : Bool) (f : Found) → Looks s r a h (m .row) x f → Arrives (Read a) (pick x nowhere (at (bankAt s a))) (merge (bankAt s a) t cell (m .row) f)
+      merge-arrives : (x : Bool) (f : Found) → Looks s r a h (m .row) x f
+          → Arrives (Read a) (pick x nowhere (at (bankAt s a))) (merge (bankAt s a) t cell (m .row) f)
       merge-arrives x nothing q = rw q read-arrives
       merge-arrives x (there p) q = rw (q .0) (echo-arrives (m .row p) (q .1))
 
@@ -313,12 +326,14 @@ module _ (s : Setup) (t : ℕ) where
     plan-arrives Idle h = only-arrives Idle none h refl
     plan-arrives (Read a) h = go (merging s)
       where
-        go : (mode : Bool) → Arrives (Read a) (pick (mode && some (touched a) (take (s .c - 1) (l .past))) nowhere (at (bankAt s a))) (plan mode (shared s) t (read (cellOf s a .0)) m)
+        go : (mode : Bool)
+            → Arrives (Read a) (pick (mode && some (touched a) (take (s .c - 1) (l .past))) nowhere (at (bankAt s a))) (plan mode (shared s) t (read (cellOf s a .0)) m)
         go false = read-arrives a h
         go true = merge-arrives a h (some (touched a) (take (s .c - 1) (l .past))) (look (cellOf s a .0) (m .row) (s .c - 1) t) (hist-look s r a h (s .c - 1) t (l .past) (m .row) (i .hist))
     plan-arrives (Write a w) h = go (merging s)
       where
-        go : (mode : Bool) → Arrives (Write a w) (pick mode nowhere (at (bankAt s a))) (plan mode (shared s) t (write (cellOf s a .0) w) m)
+        go : (mode : Bool)
+            → Arrives (Write a w) (pick mode nowhere (at (bankAt s a))) (plan mode (shared s) t (write (cellOf s a .0) w) m)
         go false = needs-arrives (bankAt s a) (bank-below s (cellOf s a)) (Write a w) (wr (cellOf s a .0) w) (put (cellOf s a .0) w) h refl
         go true = only-arrives (Write a w) (put (cellOf s a .0) w) h refl
 
@@ -366,7 +381,8 @@ module _ (s : Setup) (r : Ranges s) (t : ℕ) (o : Operation) (h : Below s o) wh
       (retire (merging s) (shared s) (s .k) t (served (shared s) t m)) (retire-books s t r (serviced s l) (served (shared s) t m) j k₁))
 
 -- what the machine delivers is what is due
-pub gives-due : (s : Setup) → Ranges s → (mem : ℕ → ℕ) (t : ℕ) (l : Ledger) (m : St ℕ) → Books s t l m → 0 < s .delta → Owes (merging s) (configOf s) (s .k) mem t m
+pub gives-due : (s : Setup) → Ranges s → (mem : ℕ → ℕ) (t : ℕ) (l : Ledger) (m : St ℕ) → Books s t l m → 0 < s .delta
+    → Owes (merging s) (configOf s) (s .k) mem t m
     → gives (merging s) (shared s) (s .k) t (on m) ≡ shownDelivery (due (λ x. mem (cellOf s x .0)) (drop (s .delta - 1) (l .past)))
 gives-due s r mem t l m i pos (did, rows, e) =
     let n : suc (s .delta - 1) ≡ s .delta = omega arith in

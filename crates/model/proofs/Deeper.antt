@@ -146,7 +146,8 @@ module _ (x : Address) where
   over-wrote (suc n) (o ∷ p) (o′ ∷ p′) h = rw (same-wrote o o′ (h .0), over-wrote n p p′ (h .1))
 
   -- and the deeper has every operation that the shallower has
-  more-touched : (mode : Bool) (o o′ : Operation) (t t′ : Bool) → Covers mode o o′ → (t ≡ true → t′ ≡ true) → touched x o || t ≡ true → touched x o′ || t′ ≡ true
+  more-touched : (mode : Bool) (o o′ : Operation) (t t′ : Bool) → Covers mode o o′ → (t ≡ true → t′ ≡ true) → touched x o || t ≡ true
+      → touched x o′ || t′ ≡ true
   more-touched mode o o′ t t′ (inl q) k e = go (touched x o′) (rw q at e)
     where
       go : (y : Bool) → y || t ≡ true → y || t′ ≡ true
@@ -158,7 +159,8 @@ module _ (x : Address) where
       go true z = refl
       go false z = z
 
-  over-touched : (mode : Bool) (n : ℕ) (p p′ : List Operation) → Over mode p p′ → some (touched x) (take n p) ≡ true → some (touched x) (take n p′) ≡ true
+  over-touched : (mode : Bool) (n : ℕ) (p p′ : List Operation) → Over mode p p′ → some (touched x) (take n p) ≡ true
+      → some (touched x) (take n p′) ≡ true
   unfolding Over
   over-touched mode zero p p′ h e = e
   over-touched mode (suc n) [] p′ h e = absurd (false≢true e)
@@ -215,14 +217,16 @@ module _ (s : Setup) where
           (drop n (l₁ .past)) (drop n (l₂ .past)) (over-drop true n (l₁ .past) (l₂ .past) h)
 
   -- at arrival the same, or nothing in the deeper
-  eases-arrives : (op : Operation) (l₁ l₂ : Ledger) → Over (merging s) (l₁ .past) (l₂ .past) → Eases (arrives s op l₁) (arrives s op l₂)
+  eases-arrives : (op : Operation) (l₁ l₂ : Ledger) → Over (merging s) (l₁ .past) (l₂ .past)
+      → Eases (arrives s op l₁) (arrives s op l₂)
   eases-arrives Idle l₁ l₂ h = inl refl
   eases-arrives (Write x w) l₁ l₂ h = inl refl
   eases-arrives (Read x) l₁ l₂ h =
       go (merging s) (some (touched x) (take (s .c - 1) (l₁ .past))) (some (touched x) (take (s .c - 1) (l₂ .past)))
       (over-touched x (merging s) (s .c - 1) (l₁ .past) (l₂ .past) h)
     where
-      go : (mode t t′ : Bool) → (t ≡ true → t′ ≡ true) → Eases (pick (mode && t) nowhere (at (bankAt s x))) (pick (mode && t′) nowhere (at (bankAt s x)))
+      go : (mode t t′ : Bool) → (t ≡ true → t′ ≡ true)
+          → Eases (pick (mode && t) nowhere (at (bankAt s x))) (pick (mode && t′) nowhere (at (bankAt s x)))
       go false t t′ k = inl refl
       go true t true k = inr refl
       go true true false k = absurd (false≢true (k refl))
@@ -304,7 +308,8 @@ module _ (s : Setup) (d : ℕ) where
       eased-both (inl e) = rw e (near-both n₁)
       eased-both (inr e) = rw e (near-shallow n₁)
 
-      eased-deep : Eases n₁ n₂ → Held (deepened s d) l₂ → full s n₁ l₁ ≡ true → full (deepened s d) n₂ l₂ ≡ false → Near l₁ (given n₂ l₂)
+      eased-deep : Eases n₁ n₂ → Held (deepened s d) l₂ → full s n₁ l₁ ≡ true → full (deepened s d) n₂ l₂ ≡ false
+          → Near l₁ (given n₂ l₂)
       eased-deep (inl e) k p q = rw e (near-deep n₁ k p (rw e at q))
       eased-deep (inr e) k p q = rw e h
 
@@ -356,7 +361,8 @@ module _ (s : Setup) (d : ℕ) (start : Address → ℕ) (op : Operation) where
     past₂ : (n : Need) → given n m₂ .past ≡ l₂ .past
     past₂ n = given-past n m₂ ∙ given-past (retires (deepened s d) l₂) l₂
 
-    ended-stepped : (o₁ o₂ : Delivery) (t₁ t₂ : ℕ) (e₁ e₂ : Reply × Ledger) → Way s op o₁ t₁ l₁ e₁ → Way (deepened s d) op o₂ t₂ l₂ e₂ → Stepped s d start op (l₁ .past) (l₂ .past) e₁ e₂
+    ended-stepped : (o₁ o₂ : Delivery) (t₁ t₂ : ℕ) (e₁ e₂ : Reply × Ledger) → Way s op o₁ t₁ l₁ e₁ → Way (deepened s d) op o₂ t₂ l₂ e₂
+        → Stepped s d start op (l₁ .past) (l₂ .past) e₁ e₂
     ended-stepped o₁ o₂ t₁ t₂ e₁ e₂ (takes p₁ q₁) (takes p₂ q₂) = record {
       taken = λ e. refl;
       going = λ u. going₂ n₂;

@@ -29,7 +29,8 @@ use Rattle.model.proofs.Entered.{entered-by, entered-halted, entered-re
 use Rattle.model.proofs.Deeper.{deepened, same-retires, same-arrives, same-ok, Droppable, undroppable, full-droppable, over-length, Beside, beside-fresh, stepped, beside-entered}
 
 -- a ledger that goes has gone all along
-going-before : (s : Setup) (start : Address → ℕ) (ops : List Operation) (l : Ledger) → booked s start ops l .halted ≡ false → l .halted ≡ false
+going-before : (s : Setup) (start : Address → ℕ) (ops : List Operation) (l : Ledger) → booked s start ops l .halted ≡ false
+    → l .halted ≡ false
 unfolding booked
 going-before s start [] l h = h
 going-before s start (op ∷ ops) l h = go (l .halted) refl (going-before s start ops (entered s start op l .1) h)
@@ -42,7 +43,8 @@ module _ (s : Setup) (d : ℕ) (start : Address → ℕ) where
   ----------------------------------------------------------------------
   -- The two side by side
 
-  beside-after : (ops : List Operation) (l₁ l₂ : Ledger) → Beside s d l₁ l₂ → Beside s d (booked s start ops l₁) (booked (deepened s d) start ops l₂)
+  beside-after : (ops : List Operation) (l₁ l₂ : Ledger) → Beside s d l₁ l₂
+      → Beside s d (booked s start ops l₁) (booked (deepened s d) start ops l₂)
   unfolding booked
   beside-after [] l₁ l₂ h = h
   beside-after (op ∷ ops) l₁ l₂ h = beside-after ops _ _ (beside-entered s d start op l₁ l₂ h)
@@ -57,7 +59,8 @@ module _ (s : Setup) (d : ℕ) (start : Address → ℕ) where
   beside : (ops : List Operation) → Beside s d (shallow ops) (deep ops)
   beside ops = beside-after ops freshLedger freshLedger (beside-fresh s d)
 
-  pub deeper-takes : (ops : List Operation) (op : Operation) → entered s start op (shallow ops) .0 .answer ≡ done → entered (deepened s d) start op (deep ops) .0 .answer ≡ done
+  pub deeper-takes : (ops : List Operation) (op : Operation) → entered s start op (shallow ops) .0 .answer ≡ done
+      → entered (deepened s d) start op (deep ops) .0 .answer ≡ done
   deeper-takes ops op = stepped s d start op (shallow ops) (deep ops) (beside ops) .taken
 
   pub deeper-goes : (ops : List Operation) → shallow ops .halted ≡ false → deep ops .halted ≡ false
@@ -69,15 +72,18 @@ module _ (s : Setup) (d : ℕ) (start : Address → ℕ) where
   ----------------------------------------------------------------------
   -- The same word
 
-  word-after : (a : Address) (ops : List Operation) (l₁ l₂ : Ledger) → Beside s d l₁ l₂ → WritesKept a ops (promised s start ops l₁) → booked s start ops l₁ .halted ≡ false
-      → sram start (l₁ .past) a ≡ sram start (l₂ .past) a → sram start (booked s start ops l₁ .past) a ≡ sram start (booked (deepened s d) start ops l₂ .past) a
+  word-after : (a : Address) (ops : List Operation) (l₁ l₂ : Ledger) → Beside s d l₁ l₂ → WritesKept a ops (promised s start ops l₁)
+      → booked s start ops l₁ .halted ≡ false
+      → sram start (l₁ .past) a ≡ sram start (l₂ .past) a
+      → sram start (booked s start ops l₁ .past) a ≡ sram start (booked (deepened s d) start ops l₂ .past) a
   unfolding booked promised
   word-after a [] l₁ l₂ h k u e = e
   word-after a (op ∷ ops) l₁ l₂ h k u e =
       word-after a ops _ _ (beside-entered s d start op l₁ l₂ h) (k .1) u
       (stepped s d start op l₁ l₂ h .words (going-before s start ops (entered s start op l₁ .1) u) a (k .0) e)
 
-  pub same-word : (a : Address) (ops : List Operation) → WritesKept a ops (promised s start ops freshLedger) → shallow ops .halted ≡ false
+  pub same-word : (a : Address) (ops : List Operation) → WritesKept a ops (promised s start ops freshLedger)
+      → shallow ops .halted ≡ false
       → sram start (shallow ops .past) a ≡ sram start (deep ops .past) a
   same-word a ops k u = word-after a ops freshLedger freshLedger (beside-fresh s d) k u refl
 
@@ -139,14 +145,16 @@ module _ (s : Setup) (d : ℕ) (start : Address → ℕ) where
     same-until = one-after ops freshLedger (λ b. omega arith) kept .0
 
     -- the next call delivers alike also where the shallower drops it or stops
-    pub same-next : (op : Operation) → entered (deepened s d) start op (deep ops) .0 .delivery ≡ entered s start op (shallow ops) .0 .delivery
+    pub same-next : (op : Operation)
+        → entered (deepened s d) start op (deep ops) .0 .delivery ≡ entered s start op (shallow ops) .0 .delivery
     same-next op = rw (one-after ops freshLedger (λ b. omega arith) kept .1) (delivers-alike op (shallow ops))
 
 ------------------------------------------------------------------------
 -- Merging, no write is ever dropped
 
 module _ (s : Setup) (start : Address → ℕ) (e : merging s ≡ true) where
-  way-kept : (op : Operation) (a : Address) (o : Delivery) (stamp : ℕ) (l : Ledger) (r : Reply × Ledger) → Way s op o stamp l r → wrote a op ≡ true → r .0 .answer ≢ dropped
+  way-kept : (op : Operation) (a : Address) (o : Delivery) (stamp : ℕ) (l : Ledger) (r : Reply × Ledger) → Way s op o stamp l r
+      → wrote a op ≡ true → r .0 .answer ≢ dropped
   way-kept op a o stamp l r (takes p q) w z = omega arith
   way-kept op a o stamp l r (drops p q) w z = undroppable op a (subst (λ (mode : Bool). Droppable mode op) e (full-droppable s op (retiredTo s l) (retiredTo s l) q)) w
   way-kept op a o stamp l r (halts p) w z = omega arith
@@ -166,7 +174,8 @@ module _ (s : Setup) (start : Address → ℕ) (e : merging s ≡ true) where
 
 -- plain, nothing ever stops
 module _ (s : Setup) (start : Address → ℕ) (e : merging s ≡ false) where
-  plain-way : (op : Operation) (o : Delivery) (stamp : ℕ) (l : Ledger) (r : Reply × Ledger) → Way s op o stamp l r → l .halted ≡ false → r .1 .halted ≡ false
+  plain-way : (op : Operation) (o : Delivery) (stamp : ℕ) (l : Ledger) (r : Reply × Ledger) → Way s op o stamp l r → l .halted ≡ false
+      → r .1 .halted ≡ false
   plain-way op o stamp l r (takes p q) h = given-halted (arrives s op (retiredTo s l)) (retiredTo s l) ∙ given-halted (retires s l) l ∙ h
   plain-way op o stamp l r (drops p q) h = given-halted (retires s l) l ∙ h
   plain-way op o stamp l r (halts p) h = absurd (false≢true (rw e at p))

@@ -53,7 +53,8 @@ module _ (s : Setup) (start : Address → ℕ) (op : Operation) (l : Ledger) whe
       go false true h e = rw (entered-passes h e) (k h e)
 
   -- a call that is not refused reaches its cycle
-  pub entered-reaches : entered s start op l .0 .answer ≢ stopped → entered s start op l .0 .answer ≢ badAddress → (l .halted ≡ false) × (addressOk s op ≡ true)
+  pub entered-reaches : entered s start op l .0 .answer ≢ stopped → entered s start op l .0 .answer ≢ badAddress
+      → (l .halted ≡ false) × (addressOk s op ≡ true)
   entered-reaches =
       entered-by (λ e. e .0 .answer ≢ stopped → e .0 .answer ≢ badAddress → (l .halted ≡ false) × (addressOk s op ≡ true))
       (λ h f g. absurd (f refl)) (λ h k f g. absurd (g refl)) (λ h k f g. (h, k))
@@ -141,7 +142,8 @@ module _ (s : Setup) where
           omega arith
       go false q = let z = k b in omega arith
 
-  way-held : (op : Operation) (d : Delivery) (stamp : ℕ) (l : Ledger) (e : Reply × Ledger) → Way s op d stamp l e → Held l → Held (e .1)
+  way-held : (op : Operation) (d : Delivery) (stamp : ℕ) (l : Ledger) (e : Reply × Ledger) → Way s op d stamp l e → Held l
+      → Held (e .1)
   way-held op d stamp l e (takes p q) k = held-given (arrives s op (retiredTo s l)) (retiredTo s l) (held-given (retires s l) l k p) q
   way-held op d stamp l e (drops p q) k = held-given (retires s l) l k p
   way-held op d stamp l e (halts p) k = k

@@ -66,7 +66,8 @@ module _ (g₁ g₂ : Setup) (w₁ w₂ : Machine) (k : Alike g₁ g₂ w₁ w�
   shallow : (ops : List Operation) (op : Operation) → replyAt g₁ w₁ ops op ≡ entered s start op (booked s start ops freshLedger) .0
   shallow ops op = reply-run g₁ w₁ (k .first) ops op
 
-  deep : (ops : List Operation) (op : Operation) → replyAt g₂ w₂ ops op ≡ entered (deepened s d) start op (booked (deepened s d) start ops freshLedger) .0
+  deep : (ops : List Operation) (op : Operation)
+      → replyAt g₂ w₂ ops op ≡ entered (deepened s d) start op (booked (deepened s d) start ops freshLedger) .0
   deep ops op =
       reply-run g₂ w₂ (k .second) ops op
       ∙ deeper (λ z f. entered z f op (booked z f ops freshLedger) .0 ≡ entered (deepened s d) start op (booked (deepened s d) start ops freshLedger) .0) refl
@@ -96,14 +97,16 @@ module _ (g₁ g₂ : Setup) (w₁ w₂ : Machine) (k : Alike g₁ g₂ w₁ w�
   -- The same word
 
   -- a call that reaches its cycle
-  reaches : (ops : List Operation) (op : Operation) → Passes (replyAt g₁ w₁ ops op .answer) → (ledgerAt g₁ w₁ ops .halted ≡ false) × (addressOk s op ≡ true)
+  reaches : (ops : List Operation) (op : Operation) → Passes (replyAt g₁ w₁ ops op .answer)
+      → (ledgerAt g₁ w₁ ops .halted ≡ false) × (addressOk s op ≡ true)
   reaches ops op p =
       let e : replyAt g₁ w₁ ops op .answer ≡ entered s start op (ledgerAt g₁ w₁ ops) .0 .answer = ap (λ (r : Reply). r .answer) (shallow ops op) in
       let f = passes-on (replyAt g₁ w₁ ops op .answer) p in
       entered-reaches s start op (ledgerAt g₁ w₁ ops) (λ z. f .0 (e ∙ z)) (λ z. f .1 (e ∙ z))
 
   -- reaches it in the deeper too
-  reaches-deep : (ops : List Operation) (op : Operation) → Passes (replyAt g₁ w₁ ops op .answer) → Passes (replyAt g₂ w₂ ops op .answer)
+  reaches-deep : (ops : List Operation) (op : Operation) → Passes (replyAt g₁ w₁ ops op .answer)
+      → Passes (replyAt g₂ w₂ ops op .answer)
   reaches-deep ops op p =
       let r = reaches ops op p in
       let l : Ledger = booked (deepened s d) start ops freshLedger in

@@ -41,7 +41,8 @@ module _ {W : Type 0} (mode : Bool) (k : Config) (K : ℕ) (mem : ℕ → W) whe
   unfoldable pub byCycle : List (Op W) → Run W
   byCycle ops = run mode (setup k) K mem (offered ops) (length ops)
 
-  run-same : (ops ops′ : ℕ → Op W) (t : ℕ) → ((r : ℕ) → r < t → ops r ≡ ops′ r) → run mode (setup k) K mem ops t ≡ run mode (setup k) K mem ops′ t
+  run-same : (ops ops′ : ℕ → Op W) (t : ℕ) → ((r : ℕ) → r < t → ops r ≡ ops′ r)
+      → run mode (setup k) K mem ops t ≡ run mode (setup k) K mem ops′ t
   unfolding run
   run-same ops ops′ zero e = refl
   run-same ops ops′ (suc t) e = rw (e t (omega arith), run-same ops ops′ t (λ r h. e r (omega arith)))
@@ -74,7 +75,8 @@ module _ {W : Type 0} (mode : Bool) (k : Config) (K : ℕ) (mem : ℕ → W) whe
   -- Replies and states
 
   module _ (l : Legal k K) where
-    pub same-reply : (ops : List (Op W)) (o : Op W) → replyC mode k K o (reachedC mode k K mem ops) ≡ reply mode (setup k) K (length ops) o (byCycle ops)
+    pub same-reply : (ops : List (Op W)) (o : Op W)
+        → replyC mode k K o (reachedC mode k K mem ops) ≡ reply mode (setup k) K (length ops) o (byCycle ops)
     same-reply ops o =
         rw (offered-last ops o, reached-run ops (o ∷ []), by-run ops (o ∷ [])) at
         (sim-reply W mode k K l mem (offered (ops ++ o ∷ [])) (λ a. Unit {0}) (λ t. any (offered (ops ++ o ∷ []) t)) (length ops))
@@ -92,7 +94,8 @@ module _ {W : Type 0} (mode : Bool) (k : Config) (K : ℕ) (mem : ℕ → W) whe
         go (on c) (M.off s) i = i
         go (off c) (M.on s) i = i
 
-    pub turn-position : (ops : List (Op W)) (c : CSt W) → reachedC mode k K mem ops ≡ on c → (c .turn ≡ length ops % k .m) × (c .pos ≡ length ops % suc (k .rest))
+    pub turn-position : (ops : List (Op W)) (c : CSt W) → reachedC mode k K mem ops ≡ on c
+        → (c .turn ≡ length ops % k .m) × (c .pos ≡ length ops % suc (k .rest))
     turn-position ops c e = go (byCycle ops) (rw e at (reached-sim ops))
       where
         go : (r : Run W) → SimRun W k (length ops) (on c) r → (c .turn ≡ length ops % k .m) × (c .pos ≡ length ops % suc (k .rest))
