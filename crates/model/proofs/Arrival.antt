@@ -1,7 +1,7 @@
 -- Retirement and arrival keep rows and buffers good. Assumes nothing.
 use Prim.Native.Nat.{ℕ, _-_, _<_}
 use native.Mathlib.Omega.{arith}
-use mathlib.Core.Path.{_≡_, refl, sym, subst}
+use mathlib.Core.Path.{_≡_, refl}
 use mathlib.Core.Bool.{Bool, true}
 use mathlib.Core.List.{List}
 use lib.Dec.{eqb}
@@ -64,15 +64,6 @@ pub retired-good : (s : Setup) (position : ℕ) (x : Lent) → Good s x → Good
 retired-good s position x g =
     with-buffers-good s x (retired s position (x .rows) (x .buffers) .1) g
     (retired-buffers-good s (g .ranges) (x .buffers) (good-buffers s x g) position (x .rows))
-
--- the same in the order of the code: q' is what retirement left
-pub retired-at-good : (s : Setup) (position : ℕ) (memory rows : List ℕ) {there : Bool} {q q' : Buffers}
-    → Good s (record { memory = memory; rows = rows; buffers = q })
-    → (there, q') ≡ retired s position rows q
-    → Good s (record { memory = memory; rows = rows; buffers = q' })
-retired-at-good s position memory rows {q = q} g e =
-    subst (λ (w : Bool × Buffers). Good s (record { memory = memory; rows = rows; buffers = w .1 })) (sym e)
-    (retired-good s position (record { memory = memory; rows = rows; buffers = q }) g)
 
 ------------------------------------------------------------------------
 -- The rows that arrive are in range

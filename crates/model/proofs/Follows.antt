@@ -1,19 +1,19 @@
 -- The invariant `Follows` of a machine and a ledger: it holds after every fresh start, and every call keeps it with equal replies. Assumes nothing.
-use Prim.Native.Nat.{ℕ, suc, _+_, _-_, _%_, _^_, _<_, _≤_}
+use Prim.Native.Nat.{ℕ, suc, _+_, _-_, _%_, _^_}
 use mathlib.Core.Path.{_≡_, refl, sym, ap, subst, _∙_}
 use mathlib.Core.Logic.{inl, inr}
-use mathlib.Core.Bool.{Bool, true, false}
+use mathlib.Core.Bool.{Bool, true, false, true≢false}
 use mathlib.Core.List.{List, [], _∷_, _++_}
 use native.Mathlib.Nat.{mod-add-mod}
 use native.Mathlib.Numerals.{add-one}
 use native.Mathlib.Omega.{arith}
 use lib.Dec.{eqb}
-use lib.ListN.{length, getD}
+use lib.ListN.{length, length-append, getD, drop}
 use Rattle.answers.specs.Answers.{done, badAddress, stopped}
 use Rattle.choice.specs.Choice.{pick}
 use Rattle.setup.specs.declared.Setup.{Setup}
 use Rattle.setup.specs.declared.Checked.the-variants.{Good as InRange}
-use Rattle.setup.specs.Setup.{Ranges, banksOf, merging, withDefaults, checkedOf}
+use Rattle.setup.specs.Setup.{Ranges, merging, withDefaults, checkedOf}
 use Rattle.port.specs.declared.Operation.{Operation}
 use Rattle.port.specs.declared.Delivery.{Delivery}
 use Rattle.port.specs.declared.Delivery.the-variants.{None, Unready, Word}
@@ -25,24 +25,27 @@ use Rattle.model.specs.Range.{Ready, lengthsOk}
 use Rattle.model.specs.Cycle.{passed}
 use Rattle.model.specs.Calls.{addressOk, refusalOf, refused, turnOf}
 use Rattle.model.specs.Runs.{Machine, call, leftBy, replyOf, after, fresh}
-use Rattle.model.specs.Ledger.{Ledger, freshLedger, replied, entered}
+use Rattle.model.specs.Sram.{due}
+use Rattle.model.specs.Ledger.{Ledger, freshLedger, serviced, replied, entered}
 use Rattle.model.specs.Promises as P
 use Rattle.model.specs.Promises.{Starts, startWord}
 use Rattle.theory.proofs.Operations as T
 use Rattle.theory.proofs.Calls.{after-last}
-use Rattle.theory.proofs.Concrete.{CRun, on, off, setup, cycleC, replyC, freshC, reachedC}
-use Rattle.theory.proofs.Ledger.{Line, goes, stops, waiting, bookOf, freshL, cycleL, replyL, reachedL}
-use Rattle.theory.proofs.Exact.{at-most-K}
-use Rattle.theory.proofs.Port.{Matches, same-reply, same-state}
+use Rattle.theory.proofs.Concrete.{CRun, on, off, cycleC, replyC, freshC, reachedC}
+use Rattle.theory.proofs.Machine.{Run, reply, gives}
+use Rattle.theory.proofs.Machine as M
+use Rattle.theory.proofs.Port.{Matches, byCycle, by-fresh, by-next, same-reply, same-state, owes}
 use Rattle.model.proofs.Ready.{passed-ready, fresh-ready}
 use Rattle.model.proofs.Calls.{refusal-ready, cycle-turn, checked-ranges}
 use Rattle.model.proofs.Starts.{starts-checked, starts-lengths, fresh-machine}
-use Rattle.model.proofs.Steps.{stateBy, passed-answer, passed-state, passed-stamp, entered-past}
+use Rattle.model.proofs.Steps.{stateBy, passed-answer, passed-state, passed-stamp}
 use Rattle.model.proofs.Config.{configOf, legal, shownOp, shownDelivery}
 use Rattle.model.proofs.Shown.{shown, shownRun}
 use Rattle.model.proofs.Shows.{fresh-shown, passed-delivery}
 use Rattle.model.proofs.Shows as shows
-use Rattle.model.proofs.Booked.{Booked, haltedOf, CallAgrees, booked-fresh, booked-call, entered-halted, entered-refused}
+use Rattle.model.proofs.Entered.{entered-past, entered-halted, entered-refused, entered-passes, way, way-delivers, way-stamps, Held, held-entered}
+use Rattle.model.proofs.Cells.{ok-below}
+use Rattle.model.proofs.Books.{shared, BooksRun, books-fresh, cycle-books, gives-due}
 
 ------------------------------------------------------------------------
 -- Small laws
@@ -77,15 +80,17 @@ module _ (g : Setup) (w₀ : Machine) where
   abbrev atC : List (T.Op ℕ) → CRun ℕ
   atC ops = reachedC (merging s) (configOf s) (s .k) words ops
 
-  abbrev atL : List (T.Op ℕ) → Line ℕ
-  atL ops = reachedL (merging s) (setup (configOf s)) (s .k) ops
+  -- the same by cycle number
+  abbrev byC : List (T.Op ℕ) → Run ℕ
+  byC ops = byCycle (merging s) (configOf s) (s .k) words ops
 
   -- ops are the operations of the passed cycles, and of the one that stopped it, in their order and by cell
   pub record Follows (w : Machine) (l : Ledger) : Type 0 where
     pub ready : Ready s (w .0) (w .1)
     pub ops : List (T.Op ℕ)
     pub shows : shownRun s (w .0) (w .1) ≡ atC ops
-    pub books : Booked s l (atL ops)
+    pub books : BooksRun s (length ops) l (byC ops)
+    pub held : Held s l
     pub stamps : w .0 .stamp ≡ length (l .past) % 2 ^ 32
 
   pub follows-fresh : Starts g w₀ → Follows (fresh g w₀) freshLedger
@@ -98,7 +103,8 @@ module _ (g : Setup) (w₀ : Machine) where
         ready = fresh-ready s (w₀ .1) r l;
         ops = [];
         shows = fresh-shown s (w₀ .1) r;
-        books = booked-fresh s;
+        books = subst (BooksRun s 0 freshLedger) (sym (by-fresh (merging s) (configOf s) (s .k) words)) (books-fresh s words);
+        held = λ b. omega arith;
         stamps = refl;
       })
 
@@ -111,15 +117,15 @@ module _ (g : Setup) (w₀ : Machine) where
 
     -- the machine's stop mark is the ledger's
     marks : w .0 .stopped ≡ l .halted
-    marks = go (w .0 .stopped) (atC (k .ops)) (atL (k .ops)) (k .shows) (k .books .mark) (same-state ℕ (merging s) (configOf s) (s .k) (legal s ranges) words (k .ops))
+    marks = go (w .0 .stopped) (atC (k .ops)) (byC (k .ops)) (k .shows) (k .books) (same-state (merging s) (configOf s) (s .k) words (legal s ranges) (k .ops))
       where
-        go : (b : Bool) (c : CRun ℕ) (x : Line ℕ) → pick b (off (shown s (w .0) (w .1))) (on (shown s (w .0) (w .1))) ≡ c → l .halted ≡ haltedOf x → Matches c x → b ≡ l .halted
-        go true (on c) x p h m = let z : _≡_ {A = ℕ} 0 1 = cc in absurd (omega arith)
-        go true (off c) (goes y) p h m = absurd m
-        go true (off c) (stops y) p h m = sym h
-        go false (off c) x p h m = let z : _≡_ {A = ℕ} 0 1 = cc in absurd (omega arith)
-        go false (on c) (stops y) p h m = absurd m
-        go false (on c) (goes y) p h m = sym h
+        go : (b : Bool) (c : CRun ℕ) (r : Run ℕ) → pick b (off (shown s (w .0) (w .1))) (on (shown s (w .0) (w .1))) ≡ c → BooksRun s (length (k .ops)) l r → Matches c r → b ≡ l .halted
+        go true (on c) r p i m = let z : _≡_ {A = ℕ} 0 1 = cc in absurd (omega arith)
+        go true (off c) (M.on y) p i m = absurd m
+        go true (off c) (M.off y) p i m = sym (i .0)
+        go false (off c) r p i m = let z : _≡_ {A = ℕ} 0 1 = cc in absurd (omega arith)
+        go false (on c) (M.off y) p i m = absurd m
+        go false (on c) (M.on y) p i m = sym (i .0)
 
     -- the three ways of a call
     by-turn : (q : Cycled × Lent) → turnOf s (w .0) op (w .1) ≡ q → call g op w ≡ q
@@ -160,38 +166,52 @@ module _ (g : Setup) (w₀ : Machine) where
       shows-on : on (shown s (w .0) (w .1)) ≡ atC (k .ops)
       shows-on = ap (λ (m : Bool). pick m (off (shown s (w .0) (w .1))) (on (shown s (w .0) (w .1)))) (sym h) ∙ k .shows
 
-      depth : (b : ℕ) → b < banksOf s → waiting (bookOf (atL (k .ops))) b ≤ s .k
-      depth b i = at-most-K (setup (configOf s)) (s .k) (merging s) (k .ops) b
-
-      theirs : replyC (merging s) (configOf s) (s .k) o (on (shown s (w .0) (w .1))) ≡ replyL (merging s) (setup (configOf s)) (s .k) words o (atL (k .ops))
+      theirs : replyC (merging s) (configOf s) (s .k) o (on (shown s (w .0) (w .1))) ≡ reply (merging s) (shared s) (s .k) (length (k .ops)) o (byC (k .ops))
       theirs =
           ap (λ (c : CRun ℕ). replyC (merging s) (configOf s) (s .k) o c) shows-on
-          ∙ same-reply ℕ (merging s) (configOf s) (s .k) (legal s ranges) words (k .ops) o
+          ∙ same-reply (merging s) (configOf s) (s .k) words (legal s ranges) (k .ops) o
 
       halts : l .halted ≡ false
       halts = sym marks ∙ h
 
-      agrees : CallAgrees s (length (l .past) % 2 ^ 32) e
-          (replyL (merging s) (setup (configOf s)) (s .k) words o (atL (k .ops)))
-          (cycleL (merging s) (setup (configOf s)) (s .k) o (atL (k .ops)))
-      agrees = booked-call s ranges words op l (atL (k .ops)) (k .books) depth halts a
+      agrees : (M.answer (merging s) (shared s) (s .k) (length (k .ops)) o (byC (k .ops)) ≡ e .0 .answer)
+          × BooksRun s (suc (length (k .ops))) (e .1) (M.cycle (merging s) (shared s) (s .k) (length (k .ops)) o (byC (k .ops)))
+      agrees = cycle-books s ranges (length (k .ops)) op (ok-below s op a) (startWord g w₀) l (byC (k .ops)) (k .books) (k .held) a
+
+      -- the call reaches its cycle, so it delivers what is due, with the cycle's stamp
+      tells : (e .0 .delivery ≡ due (startWord g w₀) (drop (s .delta - 1) (l .past))) × (e .0 .stamp ≡ length (l .past) % 2 ^ 32)
+      tells =
+          rw (entered-passes s (startWord g w₀) op l halts a)
+          (let y = way s op (due (startWord g w₀) (drop (s .delta - 1) (l .past))) (length (l .past) % 2 ^ 32) (serviced s l) in
+          (way-delivers s op _ _ (serviced s l) _ y, way-stamps s op _ _ (serviced s l) _ y))
+
+      gave : gives (merging s) (shared s) (s .k) (length (k .ops)) (byC (k .ops)) ≡ shownDelivery (due (startWord g w₀) (drop (s .delta - 1) (l .past)))
+      gave = go (byC (k .ops)) refl (k .books)
+        where
+          go : (n : Run ℕ) → byC (k .ops) ≡ n → BooksRun s (length (k .ops)) l n
+              → gives (merging s) (shared s) (s .k) (length (k .ops)) n ≡ shownDelivery (due (startWord g w₀) (drop (s .delta - 1) (l .past)))
+          go (M.on m) p i =
+              gives-due s ranges words (length (k .ops)) l m (i .1) (legal s ranges .delays)
+              (owes (merging s) (configOf s) (s .k) words (legal s ranges) (k .ops) m p)
+          go (M.off m) p i = absurd (true≢false (sym (i .0) ∙ halts))
 
       answers : r .0 .reply .answer ≡ e .0 .answer
       answers =
           sym (shows.passed-answer s (w .0) op (w .1) (k .ready) a)
           ∙ ap (λ (z : T.Reply ℕ). z .answer) theirs
-          ∙ sym (agrees .answer)
+          ∙ agrees .0
 
       deliveries : r .0 .reply .delivery ≡ e .0 .delivery
       deliveries =
           same-delivery _ _
           (sym (passed-delivery s (w .0) op (w .1) (k .ready))
           ∙ ap (λ (z : T.Reply ℕ). z .delivery) theirs
-          ∙ sym (agrees .delivery))
+          ∙ gave
+          ∙ ap shownDelivery (sym (tells .0)))
 
       stamped : r .0 .reply .stamp ≡ e .0 .stamp
       stamped =
-          passed-stamp s (w .0) op (w .1) ∙ k .stamps ∙ sym (agrees .stamped)
+          passed-stamp s (w .0) op (w .1) ∙ k .stamps ∙ sym (tells .1)
 
       -- the stamp counts on with past, but for a stop
       stamp-by : (n : ℕ) → P.Passes n → stateBy s (w .0) n .stamp ≡ length (P.passing n op (l .past)) % 2 ^ 32
@@ -206,6 +226,11 @@ module _ (g : Setup) (w₀ : Machine) where
           ∙ ap (λ (n : ℕ). length (P.passing n op (l .past)) % 2 ^ 32) answers
           ∙ sym (ap (λ (p : List Operation). length p % 2 ^ 32) (entered-past s (startWord g w₀) op l))
 
+      books-on : BooksRun s (length (k .ops ++ o ∷ [])) (e .1) (byC (k .ops ++ o ∷ []))
+      books-on =
+          let n : length (k .ops ++ o ∷ []) ≡ suc (length (k .ops)) = length-append (k .ops) (o ∷ []) ∙ add-one (length (k .ops)) in
+          rw (n, by-next (merging s) (configOf s) (s .k) words (k .ops) o) (agrees .1)
+
       kept-passed : Kept (call g op w)
       unfolding Kept
       kept-passed =
@@ -219,9 +244,8 @@ module _ (g : Setup) (w₀ : Machine) where
                   sym (shows.passed-state s (w .0) op (w .1) (k .ready) a h)
                   ∙ ap (λ (c : CRun ℕ). cycleC (merging s) (configOf s) (s .k) o c) shows-on
                   ∙ sym (after-last (cycleC (merging s) (configOf s) (s .k)) (k .ops) o (on (freshC (configOf s) words)));
-              books =
-                  subst (Booked s (e .1)) (sym (after-last (cycleL (merging s) (setup (configOf s)) (s .k)) (k .ops) o freshL))
-                  (agrees .left);
+              books = books-on;
+              held = held-entered s (startWord g w₀) op l (k .held);
               stamps = stamp-on;
             },
           )

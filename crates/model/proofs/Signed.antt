@@ -6,7 +6,7 @@ use mathlib.Core.Bool.{Bool, true, false}
 use mathlib.Core.List.{List, [], _∷_, _++_, append-assoc}
 use native.Mathlib.Omega.{arith}
 use lib.Dec.{eqb}
-use lib.ListN.{length, getD, drop, length-append, length-map}
+use lib.ListN.{length, getD, drop, length-append}
 use lib.Seq.{drop-at}
 use borrow.Author.Tests.{lt-ltb}
 use Rattle.answers.specs.Answers.{done, badAddress, dropped, stopping, stopped}
@@ -29,22 +29,21 @@ use Rattle.model.specs.Calls.{addressOk, refusalOf, refused, turnOf, cyc
 use Rattle.model.specs.Runs.{Machine, replyOf, replies, after, afterAll, fresh}
 use Rattle.model.specs.Sram.{sram, due}
 use Rattle.model.specs.Ledger.{Ledger, ledger, freshLedger, waits, serviced, retires, arrives, full, given, noted, replied, entered}
-use Rattle.model.specs.Ledger as L
 use Rattle.model.specs.Promises.{Starts, reached, startWord, replyAt, promised, booked, ledgerAt, passing, historyFrom, history, Passes, retiringAt, arrivingAt, Emulates, ReadLeaves, NothingElse, NeverUnready, StopsExactly, DropsExactly, NeverBadState, TellsWaiting, RefusesWhole, StampsCycles, TurnsApart}
-use Rattle.theory.proofs.Concrete.{Legal, CSt, CRun, on, off, setup, reachedC}
-use Rattle.theory.proofs.Ledger.{Line, goes, stops, Goes, waiting, bookOf, reachedL}
-use Rattle.theory.proofs.Past.{past-long}
-use Rattle.theory.proofs.Port.{Matches, same-state, turn-position}
+use Rattle.theory.proofs.Concrete.{Legal, CSt, CRun, on, off, reachedC}
+use Rattle.theory.proofs.Machine.{Run}
+use Rattle.theory.proofs.Machine as M
+use Rattle.theory.proofs.Port.{Matches, byCycle, same-state, turn-position}
 use Rattle.model.proofs.Range.{ready-lengths, ready-numbers}
 use Rattle.model.proofs.Ready.{c-least-one}
 use Rattle.model.proofs.Calls.{checked-ranges}
 use Rattle.model.proofs.Starts.{starts-checked}
-use Rattle.model.proofs.Steps.{passed-answer, entered-past}
-use Rattle.model.proofs.Config.{configOf, legal, shownOp}
+use Rattle.model.proofs.Steps.{passed-answer}
+use Rattle.model.proofs.Config.{configOf, legal}
 use Rattle.model.proofs.Shown.{shown}
 use Rattle.model.proofs.Shows.{waiting-shown, on-shown}
-use Rattle.model.proofs.Booked.{booked-waits}
-use Rattle.model.proofs.BookedRuns.{booked-append}
+use Rattle.model.proofs.Books.{BooksRun, books-waits, books-length}
+use Rattle.model.proofs.Entered.{entered-by, entered-past, way, way-delivers, way-stamps, way-passes, booked-append}
 use Rattle.model.proofs.Follows.{Follows, follows-fresh, follows-reply, follows-after}
 
 ------------------------------------------------------------------------
@@ -139,17 +138,13 @@ module _ (s : Setup) (start : Address → ℕ) (op : Operation) (l : Ledger) whe
   Tells : Reply → Type 0
   Tells r = (Passes (r .answer) × ((r .delivery ≡ d) × (r .stamp ≡ length (l .past) % 2 ^ 32))) ⊎ (((r .answer ≡ stopped) ⊎ (r .answer ≡ badAddress)) × (r .delivery ≡ None))
 
-  by-tells : (h a r f : Bool) → Tells (enteredBy h a r f .0)
-  unfolding Tells
-  by-tells true a r f = inr (inl refl, refl)
-  by-tells false false r f = inr (inr refl, refl)
-  by-tells false true true f = inl (inr (inr refl), (refl, refl))
-  by-tells false true false true = inl (inr (inl refl), (refl, refl))
-  by-tells false true false false = inl (inl refl, (refl, refl))
-
   entered-tells : Tells (entered s start op l .0)
+  unfolding Tells
   entered-tells =
-      subst (λ (e : Reply × Ledger). Tells (e .0)) (sym entered-tests) (by-tells (l .halted) (addressOk s op) (full s (retires s l₁) l₁) (full s (arrives s op l₂) l₂))
+      entered-by s start op l (λ e. Tells (e .0)) (λ h. inr (inl refl, refl)) (λ h k. inr (inr refl, refl))
+      (λ h k.
+      let y = way s op d (length (l .past) % 2 ^ 32) l₁ in
+      inl (way-passes s op _ _ l₁ _ y, (way-delivers s op _ _ l₁ _ y, way-stamps s op _ _ l₁ _ y)))
 
 stops-by : (h a r f : Bool) → (answerBy h a r f ≡ stopping) ↔ ((h ≡ false) × (a ≡ true) × (r ≡ true))
 stops-by true a r f = (λ e. absurd (omega arith), λ p. let z : _≡_ {A = ℕ} 0 1 = cc in absurd (omega arith))
@@ -329,11 +324,12 @@ unfolding waitingIn
 waiting-good g s c t b x = ap (λ (k : Checked). waitingIn k t b x) c
 
 -- a buffer holds what the ledger counts, going or stopped
-buffer-holds : (m : Bool) (c : CSt ℕ) (y : Line ℕ) → Matches (pick m (off c) (on c)) y → (b : ℕ) → length (c .buf b) ≡ waiting (bookOf y) b
-buffer-holds true c (goes x) k b = absurd k
-buffer-holds true c (stops x) k b = k b
-buffer-holds false c (goes x) k b = k b
-buffer-holds false c (stops x) k b = absurd k
+buffer-holds : (s : Setup) (t : ℕ) (l : Ledger) (m : Bool) (c : CSt ℕ) (n : Run ℕ) → Matches (pick m (off c) (on c)) n → BooksRun s t l n
+    → (b : ℕ) → b < banksOf s → length (c .buf b) ≡ waits l b
+buffer-holds s t l true c (M.on y) k i b h = absurd k
+buffer-holds s t l true c (M.off y) k i b h = k b ∙ sym (i .1 b h)
+buffer-holds s t l false c (M.on y) k i b h = k b ∙ sym (books-waits s t l y (i .1) b h)
+buffer-holds s t l false c (M.off y) k i b h = absurd k
 
 pub tells-waiting : TellsWaiting
 tells-waiting g w ops b h l =
@@ -353,15 +349,14 @@ tells-waiting g w ops b h l =
     fits : Legal (configOf s) (s .k)
     fits = legal s (checked-ranges g s (starts-checked g w h))
 
-    y : Line ℕ
-    y = reachedL (merging s) (setup (configOf s)) (s .k) (k .ops)
+    y : Run ℕ
+    y = byCycle (merging s) (configOf s) (s .k) (λ c. getD (w .1 .memory) c 0) (k .ops)
 
     count : countOf (m .1 .buffers .heads) b ≡ waits (ledgerAt g w ops) b
     count =
         sym (waiting-shown s (m .0) (m .1) b)
-        ∙ buffer-holds (m .0 .stopped) (shown s (m .0) (m .1)) y
-        (subst (λ (c : CRun ℕ). Matches c y) (sym (k .shows)) (same-state ℕ (merging s) (configOf s) (s .k) fits (λ c. getD (w .1 .memory) c 0) (k .ops))) b
-        ∙ sym (booked-waits s (ledgerAt g w ops) y (k .books) b l)
+        ∙ buffer-holds s (length (k .ops)) (ledgerAt g w ops) (m .0 .stopped) (shown s (m .0) (m .1)) y
+        (subst (λ (c : CRun ℕ). Matches c y) (sym (k .shows)) (same-state (merging s) (configOf s) (s .k) (λ c. getD (w .1 .memory) c 0) fits (k .ops))) (k .books) b l
 
 refuses-in : (c : Checked) (t : State) (op : Operation) (x : Lent)
     → Passes (cycleIn c t op x .0 .reply .answer) ⊎ (cycleIn c t op x ≡ refused (cycleIn c t op x .0 .reply .answer) t x)
@@ -396,19 +391,17 @@ module _ (g : Setup) (w : Machine) (h : Starts g w) where
       shows-on = sym (k .shows) ∙ on-shown z (m .0) (m .1) f
 
       p : (m .0 .turn ≡ length (k .ops) % z .m) × (m .0 .position ≡ length (k .ops) % suc (z .c - 1))
-      p = turn-position ℕ (merging z) (configOf z) (z .k) (legal z range) words (k .ops) (shown z (m .0) (m .1)) shows-on
+      p = turn-position (merging z) (configOf z) (z .k) words (legal z range) (k .ops) (shown z (m .0) (m .1)) shows-on
 
-      goes-on : (c : CRun ℕ) (y : Line ℕ) → c ≡ on (shown z (m .0) (m .1)) → Matches c y → Goes y
-      goes-on (on c) (goes y) e i = tt
-      goes-on (on c) (stops y) e i = i
-      goes-on (off c) y e i = let v : _≡_ {A = ℕ} 0 1 = cc in absurd (omega arith)
-
+      -- as many operations have passed as the machine's rows record
       long : length (k .ops) ≡ length (l .past)
       long =
-          sym (past-long (merging z) (setup (configOf z)) (z .k) (k .ops)
-          (goes-on _ _ shows-on (same-state ℕ (merging z) (configOf z) (z .k) (legal z range) words (k .ops))))
-          ∙ ap length (k .books .book .past)
-          ∙ length-map (l .past) (shownOp z)
+          go (byCycle (merging z) (configOf z) (z .k) words (k .ops)) (k .books)
+          (rw shows-on at (same-state (merging z) (configOf z) (z .k) words (legal z range) (k .ops)))
+        where
+          go : (n : Run ℕ) → BooksRun z (length (k .ops)) l n → Matches (on (shown z (m .0) (m .1))) n → length (k .ops) ≡ length (l .past)
+          go (M.on y) i e = sym (books-length z (length (k .ops)) l y (i .1))
+          go (M.off y) i e = absurd e
 
       whole : suc (z .c - 1) ≡ z .c
       whole = omega (arith, c-least-one z range)

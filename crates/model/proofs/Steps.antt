@@ -1,31 +1,20 @@
--- One call of the machine and one of the ledger: their stamps and pasts, by the answer. Assumes nothing.
-use Prim.Native.Nat.{ℕ, _-_, _%_, _^_}
-use mathlib.Core.Path.{_≡_, refl, ap, _∙_}
+-- One call of the machine that nothing refuses: its answer, and the state and stamp by the answer. Assumes nothing.
+use Prim.Native.Nat.{ℕ, _-_}
+use mathlib.Core.Path.{_≡_, refl}
 use mathlib.Core.Logic.{inl, inr}
 use mathlib.Core.Bool.{Bool, true, false}
-use mathlib.Core.List.{List, _∷_}
+use mathlib.Core.List.{List}
 use lib.Dec.{eqb}
-use lib.ListN.{length, drop}
-use Rattle.answers.specs.Answers.{done, badAddress, dropped, stopping, stopped}
+use Rattle.answers.specs.Answers.{stopping}
 use Rattle.choice.specs.Choice.{pick}
 use Rattle.setup.specs.declared.Setup.{Setup}
-use Rattle.map.specs.declared.Address.{Address}
 use Rattle.port.specs.declared.Operation.{Operation}
-use Rattle.port.specs.declared.Operation.the-variants.{Idle}
 use Rattle.port.specs.declared.Delivery.{Delivery}
-use Rattle.port.specs.declared.Delivery.the-variants.{None}
-use Rattle.port.specs.declared.Reply.{Reply}
 use Rattle.model.specs.declared.State.{State}
 use Rattle.model.specs.declared.Plan.{Plan}
 use Rattle.model.specs.Lent.{Lent, Buffers}
 use Rattle.model.specs.Cycle.{served, delivered, retired, planned, Arrived, arrived, nextState, stoppedState, finished, going, afterService, withMemory, passed}
-use Rattle.model.specs.Calls.{addressOk}
-use Rattle.model.specs.Sram.{due}
-use Rattle.model.specs.Ledger.{Ledger, ledger, serviced, retires, arrives, Need, nowhere, at, full, given, noted, replied, landed, passing, entered}
 use Rattle.model.specs.Promises as P
-
-------------------------------------------------------------------------
--- The machine
 
 -- the state that a cycle leaves: the stop's where it answers 6, else the next
 abbrev pub stateBy : Setup → State → ℕ → State
@@ -72,41 +61,3 @@ module _ (s : Setup) (t : State) where
   passed-stamp op x =
       let y : Lent = served s (t .turn) x in
       going-stamp (planned s (t .position) op (y .rows)) (delivered s (t .position) (y .rows)) (y .memory) (y .rows) (retired s (t .position) (y .rows) (y .buffers))
-
-------------------------------------------------------------------------
--- The ledger
-
-given-past : (n : Need) (l : Ledger) → given n l .past ≡ l .past
-given-past nowhere l = refl
-given-past (at b) l = refl
-
--- past after a call: the operation where it is taken, idle where it is dropped, else as before
-module _ (s : Setup) (op : Operation) (d : Delivery) (stamp : ℕ) where
-  landed-past : (l : Ledger) (f : Bool) (w : Reply × Ledger)
-      → w ≡ pick f (replied dropped d stamp, noted Idle l) (replied done d stamp, noted op (given (arrives s op l) l))
-      → w .1 .past ≡ P.passing (w .0 .answer) op (l .past)
-  landed-past l true w e = rw e
-  landed-past l false w e = rw e (ap (λ (p : List Operation). op ∷ p) (given-past (arrives s op l) l))
-
-  passing-past : (l : Ledger) (f : Bool) (w : Reply × Ledger)
-      → w ≡ pick f (replied stopping d stamp, ledger (l .past) (l .placed) (l .served) true) (landed s op d stamp (given (retires s l) l))
-      → w .1 .past ≡ P.passing (w .0 .answer) op (l .past)
-  passing-past l true w e = rw e
-  passing-past l false w e =
-      let m : Ledger = given (retires s l) l in
-      landed-past m (full s (arrives s op m) m) w e ∙ ap (P.passing (w .0 .answer) op) (given-past (retires s l) l)
-
-module _ (s : Setup) (start : Address → ℕ) (op : Operation) (l : Ledger) where
-  pub entered-past : entered s start op l .1 .past ≡ P.passing (entered s start op l .0 .answer) op (l .past)
-  unfolding entered
-  entered-past = go (l .halted) (addressOk s op)
-    where
-      m : Ledger
-      m = serviced s l
-
-      go : (h a : Bool)
-          → pick h (replied stopped None 0, l) (pick a (passing s op (due start (drop (s .delta - 1) (l .past))) (length (l .past) % 2 ^ 32) m) (replied badAddress None 0, l)) .1 .past
-          ≡ P.passing (pick h (replied stopped None 0, l) (pick a (passing s op (due start (drop (s .delta - 1) (l .past))) (length (l .past) % 2 ^ 32) m) (replied badAddress None 0, l)) .0 .answer) op (l .past)
-      go true a = refl
-      go false true = passing-past s op (due start (drop (s .delta - 1) (l .past))) (length (l .past) % 2 ^ 32) m (full s (retires s m) m) _ refl
-      go false false = refl

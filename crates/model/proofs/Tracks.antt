@@ -6,9 +6,9 @@ use Rattle.setup.specs.Setup.{withDefaults}
 use Rattle.port.specs.declared.Operation.{Operation}
 use Rattle.model.specs.Runs.{Machine, replyOf, after, afterAll, fresh}
 use Rattle.model.specs.Ledger.{Ledger, freshLedger, entered}
-use Rattle.model.specs.Promises.{reached, startWord, booked, ledgerAt}
-use Rattle.model.specs.Tracks.{Tracks, TracksFresh, TracksReply, TracksAfter}
-use Rattle.model.proofs.BookedRuns.{booked-append}
+use Rattle.model.specs.Promises.{startWord, booked}
+use Rattle.model.specs.Tracks.{TracksFresh, TracksReply, TracksAfter}
+use Rattle.model.proofs.Entered.{booked-append}
 use Rattle.model.proofs.Signed.{reply-run}
 
 after-last : (g : Setup) (ops : List Operation) (op : Operation) (w : Machine) → afterAll g (ops ++ op ∷ []) w ≡ after g op (afterAll g ops w)

@@ -84,9 +84,9 @@ landed s op d stamp l =
     pick (full s (arrives s op l) l) (replied dropped d stamp, noted Idle l)
     (replied done d stamp, noted op (given (arrives s op l) l))
 
--- l is the ledger after service
-abbrev pub passing : Setup → Operation → Delivery → ℕ → Ledger → Reply × Ledger
-passing s op d stamp l =
+-- how the cycle ends; l is the ledger after service
+abbrev pub ended : Setup → Operation → Delivery → ℕ → Ledger → Reply × Ledger
+ended s op d stamp l =
     pick (full s (retires s l) l) (replied stopping d stamp, ledger (l .past) (l .placed) (l .served) true)
     (landed s op d stamp (given (retires s l) l))
 
@@ -95,5 +95,5 @@ unfoldable pub entered : Setup → (Address → ℕ) → Operation → Ledger �
 entered s start op l =
     pick (l .halted) (replied stopped None 0, l)
     (pick (addressOk s op)
-    (passing s op (due start (drop (s .delta - 1) (l .past))) (length (l .past) % 2 ^ 32) (serviced s l))
+    (ended s op (due start (drop (s .delta - 1) (l .past))) (length (l .past) % 2 ^ 32) (serviced s l))
     (replied badAddress None 0, l))

@@ -1,6 +1,6 @@
 -- Operations offered one by one: what a list of them leaves, and how it is reached. Assumes nothing.
 use mathlib.Core.Path.{_≡_, refl}
-use mathlib.Core.List.{List, [], _∷_, _++_, append-nil, append-assoc}
+use mathlib.Core.List.{List, [], _∷_, _++_}
 use Prim.Native.Nat.{ℕ, suc, _+_, _<_}
 use native.Mathlib.Nat.{add-zero, zero-add}
 use native.Mathlib.Omega.{arith}
@@ -43,12 +43,3 @@ module _ {W A : Type 0} (step : Op W → A → A) where
 
     pub run-after : (list : List (Op W)) → ((r : ℕ) → r < length list → ops r ≡ offered list r) → run (length list) ≡ after list (run 0)
     run-after list e = rw zero-add at (after-run list 0 (λ r h. rw zero-add (e r h)))
-
--- induction on the last operation offered
-module _ {W : Type 0} (P : List (Op W) → Type 0) (none : P []) (next : (ops : List (Op W)) (o : Op W) → P ops → P (ops ++ o ∷ [])) where
-  from : (more ops : List (Op W)) → P ops → P (ops ++ more)
-  from [] ops p = rw append-nil p
-  from (o ∷ more) ops p = rw append-assoc at (from more (ops ++ o ∷ []) (next ops o p))
-
-  pub by-last : (ops : List (Op W)) → P ops
-  by-last ops = from ops [] none

@@ -5,7 +5,6 @@ pub mod Machine
 pub mod Calls
 pub mod Table
 pub mod Concrete
-pub mod Ledger
 -- The machine by cycle number.
 pub mod Queue
 pub mod Keeps
@@ -16,12 +15,5 @@ pub mod LiveRows
 pub mod Serves
 pub mod Sim
 pub mod Final
-pub mod Ring
--- The ledger.
-pub mod Books
-pub mod Past
-pub mod Exact
-pub mod Deeper
 -- What the crates above cite.
 pub mod Port
-pub mod Depths

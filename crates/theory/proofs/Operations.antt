@@ -1,5 +1,5 @@
--- What the machines and the ledger share: operations, deliveries, replies, the setup, the ideal SRAM. Assumes nothing.
-use mathlib.Core.Bool.{Bool, cond}
+-- What the machines share: operations, deliveries, replies, the setup, the ideal SRAM. Assumes nothing.
+use mathlib.Core.Bool.{Bool, false, cond}
 use Prim.Native.Nat.{ℕ, zero, suc}
 use Rattle.theory.proofs.Test.{same}
 
@@ -31,6 +31,17 @@ module _ {W : Type 0} where
   Fine Addr idle = Unit {0}
   Fine Addr (read a) = Addr a
   Fine Addr (write a w) = Addr a
+
+  -- whether an operation is on the address a, and whether it writes it
+  abbrev pub touches : ℕ → Op W → Bool
+  touches a idle = false
+  touches a (read b) = same b a
+  touches a (write b w) = same b a
+
+  abbrev pub rewrites : ℕ → Op W → Bool
+  rewrites a idle = false
+  rewrites a (read b) = false
+  rewrites a (write b w) = same b a
 
   -- the word at address a after an operation
   abbrev pub upd : ℕ → Op W → W → W

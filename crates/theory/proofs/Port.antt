@@ -1,117 +1,114 @@
--- Demand 2, over every list of operations from a fresh start: the machine by position replies as the ledger, call by call. Assumes nothing.
+-- Demand 2, over every list of operations from a fresh start: the machine by position is the machine by cycle number, which delivers what the ideal SRAM owes. Assumes nothing.
 --
--- For every legal setup, in both modes, over any words and any bank rule. The machine is that of Concrete.antt, the ledger that of Ledger.antt:
---   same-reply      answer (taken, dropped, stopping, stopped before) and delivery of the next call are the ledger's
---   same-state      the machine is on exactly where the ledger goes; going or stopped, each buffer holds placed less served entries
---   never-unready   no call delivers unready
+-- For every legal setup, in both modes, over any words and any bank rule. The machine by position is that of Concrete.antt, the one by cycle number that of Machine.antt:
+--   same-reply      answer (0 taken, 5 dropped, 6 stops, 7 was stopped) and delivery of the next call are the same
+--   same-state      one is on exactly where the other is; going or stopped, each buffer holds as many entries
 --   turn-position   of a going machine: turn and position are the number of operations passed, modulo m and C
---   Tracks          the same for operations that are chosen as one goes: it holds of a fresh start, and every call keeps it
--- What the ledger's replies mean is in Past.antt (a read taken leaves delay cycles later), in Exact.antt (dropped and stopping exactly when) and in Depths.antt.
-use mathlib.Core.Path.{_≡_, refl, sym, ap, _∙_}
-use mathlib.Core.Logic.{_≢_}
-use mathlib.Core.Bool.{Bool}
+--   owes            what it delivers is owed to the operation taken delay cycles ago
+use mathlib.Core.Path.{_≡_, refl, _∙_}
+use mathlib.Core.Bool.{Bool, cond}
 use mathlib.Core.List.{List, [], _∷_, _++_}
-use Prim.Native.Nat.{ℕ, suc, _%_}
-use lib.ListN.{length}
-use Rattle.theory.proofs.Operations.{Op, Reply, unready}
-use Rattle.theory.proofs.Machine.{Run, run}
+use Prim.Native.Nat.{ℕ, zero, suc, _-_, _%_, _<_}
+use native.Mathlib.Numerals.{add-one}
+use native.Mathlib.Omega.{arith}
+use lib.ListN.{length, length-append}
+use Rattle.theory.proofs.Test.{lt}
+use Rattle.theory.proofs.Operations.{Op, nil, owed, ideal}
+use Rattle.theory.proofs.Machine.{St, Run, shape, cycle, reply, gives, run, did}
 use Rattle.theory.proofs.Machine as M
-use Rattle.theory.proofs.Calls.{after-last, run-after, offered, offered-before, offered-last}
-use Rattle.theory.proofs.Concrete.{Config, Legal, setup, CSt, CRun, on, off, freshC, cycleC, replyC, runC, reachedC}
-use Rattle.theory.proofs.Ledger.{Line, goes, stops, waiting, freshL, cycleL, replyL, ledger, reachedL}
-use Rattle.theory.proofs.Past.{never-unready as ledger-ready}
-use Rattle.theory.proofs.Runs.{any}
+use Rattle.theory.proofs.Calls.{run-after, offered, offered-before, offered-last}
+use Rattle.theory.proofs.Concrete.{Config, Legal, setup, CSt, CRun, on, off, cycleC, replyC, runC, reachedC}
+use Rattle.theory.proofs.Runs.{any, good, delivery}
 use Rattle.theory.proofs.Sim.{same-length}
 use Rattle.theory.proofs.Final.{SimRun, ticks, sim-run, sim-reply}
-use Rattle.theory.proofs.Books.{BooksRun, waits, books, books-reply}
 
 ------------------------------------------------------------------------
 -- What a list reaches is reached by a run over all cycles, the list perhaps going on
 
-module _ (W : Type 0) (mode : Bool) (k : Config) (K : ℕ) (mem : ℕ → W) where
+-- one is on where the other is, with as many entries in every buffer
+abbrev pub Matches : {W : Type 0} → CRun W → Run W → Type 0
+Matches (on c) (M.on s) = (b : ℕ) → length (c .buf b) ≡ length (s .buf b)
+Matches (off c) (M.off s) = (b : ℕ) → length (c .buf b) ≡ length (s .buf b)
+Matches (on c) (M.off s) = ⊥
+Matches (off c) (M.on s) = ⊥
+
+module _ {W : Type 0} (mode : Bool) (k : Config) (K : ℕ) (mem : ℕ → W) where
   reached-run : (ops more : List (Op W)) → runC mode k K mem (offered (ops ++ more)) (length ops) ≡ reachedC mode k K mem ops
   unfolding runC
   reached-run ops more = run-after (cycleC mode k K) (runC mode k K mem (offered (ops ++ more))) (offered (ops ++ more)) (λ t. refl) ops (offered-before ops more)
 
-  reached-ledger : (ops more : List (Op W)) → ledger mode (setup k) K (offered (ops ++ more)) (length ops) ≡ reachedL mode (setup k) K ops
-  unfolding ledger
-  reached-ledger ops more = run-after (cycleL mode (setup k) K) (ledger mode (setup k) K (offered (ops ++ more))) (offered (ops ++ more)) (λ t. refl) ops (offered-before ops more)
+  -- the machine by cycle number after these operations
+  unfoldable pub byCycle : List (Op W) → Run W
+  byCycle ops = run mode (setup k) K mem (offered ops) (length ops)
 
-------------------------------------------------------------------------
--- Replies
+  run-same : (ops ops′ : ℕ → Op W) (t : ℕ) → ((r : ℕ) → r < t → ops r ≡ ops′ r)
+      → run mode (setup k) K mem ops t ≡ run mode (setup k) K mem ops′ t
+  unfolding run
+  run-same ops ops′ zero e = refl
+  run-same ops ops′ (suc t) e = rw (e t (omega arith), run-same ops ops′ t (λ r h. e r (omega arith)))
 
-module _ (W : Type 0) (mode : Bool) (k : Config) (K : ℕ) (l : Legal k K) (mem : ℕ → W) where
-  pub same-reply : (ops : List (Op W)) (o : Op W) → replyC mode k K o (reachedC mode k K mem ops) ≡ replyL mode (setup k) K mem o (reachedL mode (setup k) K ops)
-  same-reply ops o = rw (offered-last ops o, reached-run W mode k K mem ops (o ∷ []), reached-ledger W mode k K mem ops (o ∷ [])) at by-cycle
-    where
-      by-cycle : replyC mode k K (offered (ops ++ o ∷ []) (length ops)) (runC mode k K mem (offered (ops ++ o ∷ [])) (length ops))
-          ≡ replyL mode (setup k) K mem (offered (ops ++ o ∷ []) (length ops)) (ledger mode (setup k) K (offered (ops ++ o ∷ [])) (length ops))
-      by-cycle =
-          sim-reply W mode k K l mem (offered (ops ++ o ∷ [])) (λ a. Unit {0}) (λ t. any (offered (ops ++ o ∷ []) t)) (length ops)
-          ∙ books-reply W mode (setup k) K mem (offered (ops ++ o ∷ [])) (k .m) (ticks k K l) (l .fits) (l .delays) (length ops)
+  by-run : (ops more : List (Op W)) → run mode (setup k) K mem (offered (ops ++ more)) (length ops) ≡ byCycle ops
+  unfolding byCycle
+  by-run ops more = run-same (offered (ops ++ more)) (offered ops) (length ops) (offered-before ops more)
 
-  pub never-unready : (ops : List (Op W)) (o : Op W) → replyC mode k K o (reachedC mode k K mem ops) .delivery ≢ unready
-  never-unready ops o p = ledger-ready mem (setup k) (reachedL mode (setup k) K ops) (sym (ap (λ (r : Reply W). r .delivery) (same-reply ops o)) ∙ p)
+  pub by-fresh : byCycle [] ≡ M.on (M.fresh mem)
+  unfolding byCycle run
+  by-fresh = refl
 
-------------------------------------------------------------------------
--- States
+  run-next : (ops : List (Op W)) (o : Op W) (n : ℕ) → n ≡ suc (length ops)
+      → run mode (setup k) K mem (offered (ops ++ o ∷ [])) n ≡ cycle mode (setup k) K (length ops) o (byCycle ops)
+  unfolding run
+  run-next ops o n e = rw (e, offered-last ops o, by-run ops (o ∷ []))
 
-module _ {W : Type 0} where
-  -- on where the ledger goes and off where it has stopped, with the ledger's counts in every buffer
-  abbrev pub Matches : CRun W → Line W → Type 0
-  Matches (on c) (goes l) = (b : ℕ) → length (c .buf b) ≡ waiting l b
-  Matches (off c) (stops l) = (b : ℕ) → length (c .buf b) ≡ waiting l b
-  Matches (on c) (stops l) = ⊥
-  Matches (off c) (goes l) = ⊥
+  pub by-next : (ops : List (Op W)) (o : Op W) → byCycle (ops ++ o ∷ []) ≡ cycle mode (setup k) K (length ops) o (byCycle ops)
+  unfolding byCycle
+  by-next ops o = run-next ops o (length (ops ++ o ∷ [])) (length-append ops (o ∷ []) ∙ add-one (length ops))
 
-module _ (W : Type 0) (mode : Bool) (k : Config) (K : ℕ) (l : Legal k K) (mem : ℕ → W) where
-  matches : (t : ℕ) (c : CRun W) (s : Run W) (x : Line W) → SimRun W k t c s → BooksRun W (setup k) K t x s → Matches c x
-  matches t (on c) (M.on s) (goes x) i j = λ b. same-length W k b t c s i ∙ sym (waits W (setup k) K t x s j b)
-  matches t (off c) (M.off s) (stops x) i j = λ b. i b ∙ sym (j b)
-  matches t (on c) (M.off s) x i j = absurd i
-  matches t (off c) (M.on s) x i j = absurd i
-  matches t (on c) (M.on s) (stops x) i j = absurd j
-  matches t (off c) (M.off s) (goes x) i j = absurd j
+  -- of a state s before cycle t: its rows record the operations did, and the ideal SRAM over these owes what s delivers
+  abbrev pub Owes : ℕ → St W → Type 0
+  Owes t s =
+      (did : ℕ → Op W)
+      × ((r : ℕ) → r < t → shape (s .row r) ≡ did r)
+      × (gives mode (setup k) K t (M.on s) ≡ cond (lt t (k .delay)) nil (owed (did (t - k .delay)) (ideal mem did (t - k .delay))))
 
-  -- the machine by cycle number that both are held to
-  between : List (Op W) → Run W
-  between ops = run mode (setup k) K mem (offered (ops ++ [])) (length ops)
+  ----------------------------------------------------------------------
+  -- Replies and states
 
-  reached-sim : (ops : List (Op W)) → SimRun W k (length ops) (reachedC mode k K mem ops) (between ops)
-  unfolding between
-  reached-sim ops = rw (reached-run W mode k K mem ops []) at (sim-run W mode k K l mem (offered (ops ++ [])) (λ a. Unit {0}) (λ t. any (offered (ops ++ []) t)) (length ops))
+  module _ (l : Legal k K) where
+    pub same-reply : (ops : List (Op W)) (o : Op W)
+        → replyC mode k K o (reachedC mode k K mem ops) ≡ reply mode (setup k) K (length ops) o (byCycle ops)
+    same-reply ops o =
+        rw (offered-last ops o, reached-run ops (o ∷ []), by-run ops (o ∷ [])) at
+        (sim-reply W mode k K l mem (offered (ops ++ o ∷ [])) (λ a. Unit {0}) (λ t. any (offered (ops ++ o ∷ []) t)) (length ops))
 
-  reached-books : (ops : List (Op W)) → BooksRun W (setup k) K (length ops) (reachedL mode (setup k) K ops) (between ops)
-  unfolding between
-  reached-books ops = rw (reached-ledger W mode k K mem ops []) at (books W (setup k) K mode mem (offered (ops ++ [])) (length ops))
+    reached-sim : (ops : List (Op W)) → SimRun W k (length ops) (reachedC mode k K mem ops) (byCycle ops)
+    reached-sim ops =
+        rw (reached-run ops [], by-run ops []) at (sim-run W mode k K l mem (offered (ops ++ [])) (λ a. Unit {0}) (λ t. any (offered (ops ++ []) t)) (length ops))
 
-  pub same-state : (ops : List (Op W)) → Matches (reachedC mode k K mem ops) (reachedL mode (setup k) K ops)
-  same-state ops = matches (length ops) (reachedC mode k K mem ops) (between ops) (reachedL mode (setup k) K ops) (reached-sim ops) (reached-books ops)
+    pub same-state : (ops : List (Op W)) → Matches (reachedC mode k K mem ops) (byCycle ops)
+    same-state ops = go (reachedC mode k K mem ops) (byCycle ops) (reached-sim ops)
+      where
+        go : (c : CRun W) (r : Run W) → SimRun W k (length ops) c r → Matches c r
+        go (on c) (M.on s) i = λ b. same-length W k b (length ops) c s i
+        go (off c) (M.off s) i = i
+        go (on c) (M.off s) i = i
+        go (off c) (M.on s) i = i
 
-  pub turn-position : (ops : List (Op W)) (c : CSt W) → reachedC mode k K mem ops ≡ on c → (c .turn ≡ length ops % k .m) × (c .pos ≡ length ops % suc (k .rest))
-  turn-position ops c e = go (between ops) (rw e at (reached-sim ops))
-    where
-      go : (s : Run W) → SimRun W k (length ops) (on c) s → (c .turn ≡ length ops % k .m) × (c .pos ≡ length ops % suc (k .rest))
-      go (M.on s) i = (i .turns, i .places)
-      go (M.off s) i = absurd i
+    pub turn-position : (ops : List (Op W)) (c : CSt W) → reachedC mode k K mem ops ≡ on c
+        → (c .turn ≡ length ops % k .m) × (c .pos ≡ length ops % suc (k .rest))
+    turn-position ops c e = go (byCycle ops) (rw e at (reached-sim ops))
+      where
+        go : (r : Run W) → SimRun W k (length ops) (on c) r → (c .turn ≡ length ops % k .m) × (c .pos ≡ length ops % suc (k .rest))
+        go (M.on s) i = (i .turns, i .places)
+        go (M.off s) i = absurd i
 
-------------------------------------------------------------------------
--- Call by call
+    --------------------------------------------------------------------
+    -- Deliveries
 
-module _ (W : Type 0) (mode : Bool) (k : Config) (K : ℕ) (mem : ℕ → W) where
-  -- both have come from a fresh start by the same operations
-  abbrev pub Tracks : CRun W → Line W → Type 0
-  Tracks c x = (ops : List (Op W)) × (c ≡ reachedC mode k K mem ops) × (x ≡ reachedL mode (setup k) K ops)
-
-  pub tracks-fresh : Tracks (on (freshC k mem)) freshL
-  tracks-fresh = ([], refl, refl)
-
-  pub tracks-cycle : (o : Op W) (c : CRun W) (x : Line W) → Tracks c x → Tracks (cycleC mode k K o c) (cycleL mode (setup k) K o x)
-  tracks-cycle o c x i = (i .0 ++ o ∷ [], rw (i .1) (sym (after-last (cycleC mode k K) (i .0) o (on (freshC k mem)))), rw (i .2) (sym (after-last (cycleL mode (setup k) K) (i .0) o freshL)))
-
-module _ (W : Type 0) (mode : Bool) (k : Config) (K : ℕ) (l : Legal k K) (mem : ℕ → W) where
-  pub tracks-reply : (o : Op W) (c : CRun W) (x : Line W) → Tracks W mode k K mem c x → replyC mode k K o c ≡ replyL mode (setup k) K mem o x
-  tracks-reply o c x i = rw (i .1, i .2) (same-reply W mode k K l mem (i .0) o)
-
-  pub tracks-state : (c : CRun W) (x : Line W) → Tracks W mode k K mem c x → Matches c x
-  tracks-state c x i = rw (i .1, i .2) (same-state W mode k K l mem (i .0))
+    pub owes : (ops : List (Op W)) (s : St W) → byCycle ops ≡ M.on s → Owes (length ops) s
+    unfolding byCycle
+    owes ops s e =
+        let e′ : run mode (setup k) K mem (offered ops) (length ops) ≡ M.on s = e in
+        let i = good W mode (setup k) K mem (offered ops) (λ a. Unit {0}) (λ t. any (offered ops t)) (k .m) (ticks k K l) (l .fits) (length ops) in
+        let d = delivery W mode (setup k) K mem (offered ops) (λ a. Unit {0}) (λ t. any (offered ops t)) (k .m) (ticks k K l) (l .fits) (l .delays) (length ops) in
+        (did mode (setup k) K mem (offered ops), (rw e′ at i) .0 .shapes, (rw e′ at d) tt)

@@ -23,10 +23,6 @@ pub same-eqb : (a b : ℕ) → same a b ≡ eqb a b
 unfolding same
 same-eqb a b = refl
 
-pub lt-ltb : (a b : ℕ) → lt a b ≡ ltb a b
-unfolding lt
-lt-ltb a b = refl
-
 pub same? : (a b : ℕ) → Says (a ≡ b) (same a b)
 unfolding same
 same? a b = go (eqb a b) refl

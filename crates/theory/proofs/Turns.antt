@@ -5,8 +5,7 @@ use mathlib.Core.Bool.{Bool, cond}
 use Prim.Native.Nat.{ℕ, zero, suc, _+_, _-_, _*_, _/_, _%_, _≤_, _<_}
 use native.Mathlib.Nat.{suc-mod, mod-lt, mod-self, mod-eq-of-lt, mod-mod, mod-add-mod, mod-eq-sub-mod, add-mod-right, div-add-mod', mul-le-mul-right, suc-mul}
 use native.Mathlib.Omega.{arith}
-use Rattle.theory.proofs.Test.{same, lt, Says, is, isnt, lt?, same?, lt-true, lt-false}
-use Rattle.theory.proofs.Table.{back}
+use Rattle.theory.proofs.Test.{same, lt, Says, is, isnt, lt?, same?, lt-true}
 use Rattle.theory.proofs.Concrete.{onward, ago, due}
 use Rattle.theory.proofs.Keeps.{Clock}
 
@@ -55,11 +54,6 @@ mod-ago rest d r h = rw (← (mod-add-mod r (suc rest) d)) (go (lt (r % suc rest
         let ge : suc rest ≤ r % suc rest + d = omega arith in
         let lo : r % suc rest + d - suc rest < suc rest = omega (arith, l) in
         rw (mod-eq-sub-mod ge, mod-eq-of-lt lo) (put (r % suc rest) (r % suc rest + d - suc rest) l _ (lt? _ _) (inr (omega arith)) lo)
-
--- the place before is that of one cycle ago
-pub back-ago : (rest p : ℕ) → back rest p ≡ ago rest 1 p
-back-ago rest zero = rw (lt-true {a = 0} {b = 1} (omega arith)) (omega arith)
-back-ago rest (suc p) = rw (lt-false {a = suc p} {b = 1} (omega arith)) (omega arith)
 
 -- the turns of B banks
 module _ (m B : ℕ) where

@@ -1,1 +1,1 @@
-// The mathematics behind demands 2 and 3: definitions and laws alone, in proofs/.
+// The mathematics behind demand 2, the machine by cycle number and by position: definitions and laws alone, in proofs/.
