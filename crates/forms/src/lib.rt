@@ -1,4 +1,4 @@
-// What C passes and gets: structs of numbers in place of the enums, and the functions between them and the controller's own types.
+// What C passes and gets: structs of numbers, and the functions between them and the controller's types.
 ghost use mathlib.Core.Path.{_≡_};
 ghost use Rattle.forms.specs.Forms.{noSetup, checkedOut, lentOut, noLengths, markOk, stateIn, markOut, stateOut, startedOut, deliveryOut, wordOut, replyOut, cycledOut, refusedBy, told, operationIn, askedOf, operationOut, setupRead, operationRead};
 use setup::Setup;

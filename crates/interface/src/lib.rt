@@ -1,4 +1,4 @@
-// The calls that C makes: include/ridkostan.h. Each turns the numbers it gets into the controller's types and what that answers into numbers.
+// The calls that C makes (include/ridkostan.h): numbers in, the controller or the records asked, numbers out.
 ghost use mathlib.Core.Path.{_≡_};
 ghost use Rattle.setup.specs.Setup.{checkedOf};
 ghost use Rattle.model.specs.Lent.{lent};
