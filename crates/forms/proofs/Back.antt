@@ -58,7 +58,7 @@ pub asked-back : (t : kept.State) (op : port.Operation) → askedOf (stateOut t)
 unfolding askedIn
 asked-back t op =
     ap (λ (r : OperationRecord). askedIn r (stateOut t)) (operation-back op)
-    ∙ ap (λ (m : Bool). pick m (Asked.Cycle (stateIn (stateOut t)) op) Asked.Marked) (mark-good (t .stamp) (t .turn) (t .position) (t .stopped))
+    ∙ ap (λ (m : Bool). pick m (Asked.Cycle (stateIn (stateOut t)) op) Asked.BadMark) (mark-good (t .stamp) (t .turn) (t .position) (t .stopped))
     ∙ ap (λ (k : kept.State). Asked.Cycle k op) (state-back t)
 
 pub refused-out : (n : ℕ) (t : kept.State) → cycledOut (controller.refusedBy n t) ≡ refusedBy n (stateOut t)

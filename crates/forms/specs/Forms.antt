@@ -116,8 +116,8 @@ operationOut (Write a w) = numbers writeRecordKind (a .0) w
 
 -- what C asks of a cycle: an operation that is none comes first, then a mark out of range
 unfoldable pub askedIn : OperationRecord → State → Asked
-askedIn OperationRecord.Bad t = Asked.Bad
-askedIn (OperationRecord.Good op) t = pick (markOk t) (Asked.Cycle (stateIn t) op) Asked.Marked
+askedIn OperationRecord.Bad t = Asked.NoOperation
+askedIn (OperationRecord.Good op) t = pick (markOk t) (Asked.Cycle (stateIn t) op) Asked.BadMark
 
 abbrev pub askedOf : State → Operation → Asked
 askedOf t op = askedIn (operationIn op) t

@@ -1,4 +1,4 @@
-// What C passes and gets: structs of numbers in place of the enums, and the functions between them and the controller's own types.
+// What C passes and gets: structs of numbers, and the functions between them and the controller's types.
 ghost use mathlib.Core.Path.{_≡_};
 ghost use Rattle.forms.specs.Forms.{noSetup, checkedOut, lentOut, noLengths, markOk, stateIn, markOut, stateOut, startedOut, deliveryOut, wordOut, replyOut, cycledOut, refusedBy, told, operationIn, askedOf, operationOut, setupRead, operationRead};
 use setup::Setup;
@@ -87,8 +87,8 @@ pub struct Recorded {
 
 // What C asks of a cycle: an operation that is none, a mark out of range, or a cycle of the controller.
 pub enum Asked {
-    Bad,
-    Marked,
+    NoOperation,
+    BadMark,
     Cycle(model::State, port::Operation),
 }
 
@@ -285,12 +285,12 @@ pub fn cycle_asked(t: State, op: Operation) -> Asked
     ensures { λ r. ⌜ r ≡ askedOf t op ⌝ }
 {
     let records::OperationRecord::Good(o) = operation_in(op) else {
-        return Asked::Bad;
+        return Asked::NoOperation;
     };
     if mark_ok(t) {
         return Asked::Cycle(state_in(t), o);
     }
-    Asked::Marked
+    Asked::BadMark
 }
 
 // The three numbers of an operation.

@@ -75,7 +75,7 @@ pub refuses-c : RefusesC
 unfolding Whole cycleIn askedIn
 refuses-c s t op x = go (operationIn op)
   where
-    marked : (o : port.Operation) (b : Bool) → markOk t ≡ b → Whole t x (cycleIn (pick b (Asked.Cycle (stateIn t) o) Asked.Marked) s t x)
+    marked : (o : port.Operation) (b : Bool) → markOk t ≡ b → Whole t x (cycleIn (pick b (Asked.Cycle (stateIn t) o) Asked.BadMark) s t x)
     marked o true h = with-whole t x (cycleOf s (stateIn t) o x) h (refuses-whole s (stateIn t) o x)
     marked o false h = inr refl
 

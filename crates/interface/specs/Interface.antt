@@ -50,8 +50,8 @@ abbrev pub cycledWith : passing.Cycled × room.Lent → Cycled × room.Lent
 cycledWith r = (cycledOut (r .0), r .1)
 
 unfoldable pub cycleIn : Asked → Setup → State → room.Lent → Cycled × room.Lent
-cycleIn Asked.Bad s t x = (refusedBy badRecord t, x)
-cycleIn Asked.Marked s t x = (refusedBy (badMark (checkedOf s) x) t, x)
+cycleIn Asked.NoOperation s t x = (refusedBy badRecord t, x)
+cycleIn Asked.BadMark s t x = (refusedBy (badMark (checkedOf s) x) t, x)
 cycleIn (Asked.Cycle k op) s t x = cycledWith (cycleOf s k op x)
 
 abbrev pub cycleOut : Setup → State → Operation → room.Lent → Cycled × room.Lent

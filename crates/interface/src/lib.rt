@@ -1,4 +1,4 @@
-// The calls that C makes: include/ridkostan.h. Each turns the numbers it gets into the controller's types and what that answers into numbers.
+// The calls that C makes (include/ridkostan.h): numbers in, the controller or the records asked, numbers out.
 ghost use mathlib.Core.Path.{_≡_};
 ghost use Rattle.setup.specs.Setup.{checkedOf};
 ghost use Rattle.model.specs.Lent.{lent};
@@ -105,8 +105,8 @@ pub extern "C" fn ridkostan_cycle(
         ≡ cycleOut setup state operation (lent (now (memory .entry)) (now (rows .entry)) (now (entries .entry)) (now (heads .entry))) ⌝ }
 {
     match forms::cycle_asked(state, operation) {
-        Asked::Bad => forms::refuse(answers::BAD_RECORD, state),
-        Asked::Marked => refuse_mark(setup, state, memory, rows, entries, heads),
+        Asked::NoOperation => forms::refuse(answers::BAD_RECORD, state),
+        Asked::BadMark => refuse_mark(setup, state, memory, rows, entries, heads),
         Asked::Cycle(t, op) => {
             let cycled = controller::cycle(setup, t, op, memory, rows, entries, heads);
             forms::cycled_out(cycled)

@@ -95,7 +95,8 @@ pub fn setup_line(answer: u32) -> [u8; SETUP_LINE]
 // A run before its first record: a fresh start over memory of zeros.
 pub fn begin(s: Setup, memory: &[u32], rows: &mut [u32], entries: &[u32], heads: &mut [u32]) -> Run
     requires { ⌜ Opened s × (lent (now memory) (now rows) (now entries) (now heads) ≡ zerosFor s) ⌝ }
-    ensures { λ r. ⌜ (r, lent (now (memory .entry)) (now (rows .exit)) (now (entries .entry)) (now (heads .exit))) ≡ begun s ⌝ }
+    ensures { λ r. ⌜ (r, lent (now (memory .entry)) (now (rows .exit)) (now (entries .entry)) (now (heads .exit)))
+        ≡ begun s ⌝ }
 {
     let before = State {
         stamp: 0,
@@ -124,7 +125,9 @@ fn print(
     out: &mut [u8],
 ) -> Run
     requires { ⌜ (now table ≡ pairTable) × (r .end + lineMost ≤ length (now out)) × (r .number + 1 < 2 ^ 64) ⌝ }
-    ensures { λ x. ⌜ ((x, now (out .exit)) ≡ putLine (now (out .entry)) r state answer d on) × (x .end ≤ r .end + lineMost) ⌝ }
+    ensures { λ x. ⌜ ((x, now (out .exit))
+        ≡ putLine (now (out .entry)) r state answer d on)
+        × (x .end ≤ r .end + lineMost) ⌝ }
 {
     let end = listing::put_line(table, out, r.end, r.number, answer, d);
     Run {
@@ -148,7 +151,9 @@ fn one(
     out: &mut [u8],
 ) -> Run
     requires { ⌜ (now table ≡ pairTable) × (r .end + lineMost ≤ length (now out)) × (r .number + 1 < 2 ^ 64) ⌝ }
-    ensures { λ x. ⌜ ((x, (lent (now (memory .exit)) (now (rows .exit)) (now (entries .exit)) (now (heads .exit)), now (out .exit))) ≡ putAt (now (out .entry)) (r .end) (withRecord s (operationOf (now (bytes .entry))) (listedFrom r (lent (now (memory .entry)) (now (rows .entry)) (now (entries .entry)) (now (heads .entry)))))) × (x .end ≤ r .end + lineMost) ⌝ }
+    ensures { λ x. ⌜ ((x, (lent (now (memory .exit)) (now (rows .exit)) (now (entries .exit)) (now (heads .exit)), now (out .exit)))
+        ≡ putAt (now (out .entry)) (r .end) (withRecord s (operationOf (now (bytes .entry))) (listedFrom r (lent (now (memory .entry)) (now (rows .entry)) (now (entries .entry)) (now (heads .entry))))))
+        × (x .end ≤ r .end + lineMost) ⌝ }
 {
     let state = r.state;
     let OperationRecord::Good(op) = records::read_operation(bytes) else {
@@ -188,7 +193,9 @@ pub fn part(
     out: &mut [u8],
 ) -> Run
     requires { ⌜ (now table ≡ pairTable) × (lineMost * recordsIn (length (now input)) ≤ length (now out)) × (run .number + recordsIn (length (now input)) < 2 ^ 64) ⌝ }
-    ensures { λ r. ⌜ ((r, (lent (now (memory .exit)) (now (rows .exit)) (now (entries .exit)) (now (heads .exit)), now (out .exit))) ≡ putAt (now (out .entry)) 0 (listed s (now (input .entry)) (listedFrom run (lent (now (memory .entry)) (now (rows .entry)) (now (entries .entry)) (now (heads .entry)))))) × (r .end ≤ length (now (out .exit))) ⌝ }
+    ensures { λ r. ⌜ ((r, (lent (now (memory .exit)) (now (rows .exit)) (now (entries .exit)) (now (heads .exit)), now (out .exit)))
+        ≡ putAt (now (out .entry)) 0 (listed s (now (input .entry)) (listedFrom run (lent (now (memory .entry)) (now (rows .entry)) (now (entries .entry)) (now (heads .entry))))))
+        × (r .end ≤ length (now (out .exit))) ⌝ }
 {
     let count = (input.len() + (records::OPERATION_BYTES - 1)) / records::OPERATION_BYTES;
     let state = run.state;

@@ -14,18 +14,18 @@ use Rattle.forms.proofs.cycle_asked.Tie as tie
 
 -- r is what the numbers of the operation mean, b what the test of the mark answered
 module _ (t : State) (op : Operation) (r : OperationRecord) (er : r ≡ operationIn op) where
-  asked-bad : r ≡ OperationRecord.Bad → Asked.Bad ≡ askedOf t op
+  asked-none : r ≡ OperationRecord.Bad → Asked.NoOperation ≡ askedOf t op
   unfolding askedIn
-  asked-bad h = rw (← er, h)
+  asked-none h = rw (← er, h)
 
   module _ (o : port.Operation) (h : r ≡ OperationRecord.Good o) (b : Bool) (eb : b ≡ markOk t) where
     asked-cycle : (k : kept.State) → b ≡ true → k ≡ stateIn t → Asked.Cycle k o ≡ askedOf t op
     unfolding askedIn
     asked-cycle k f ek = rw (← er, h, ← eb, f, ek)
 
-    asked-marked : b ≡ false → Asked.Marked ≡ askedOf t op
+    asked-bad-mark : b ≡ false → Asked.BadMark ≡ askedOf t op
     unfolding askedIn
-    asked-marked f = rw (← er, h, ← eb, f)
+    asked-bad-mark f = rw (← er, h, ← eb, f)
 
 operation-in-requires : tie.Need-operation-in-requires
 operation-in-requires c κs = search needs
@@ -37,7 +37,7 @@ enum-told : tie.Need-enum-told
 enum-told c = search needs
 
 returns : tie.Need-returns
-returns c = search (asked-bad)
+returns c = search (asked-none)
 
 mark-ok-requires : tie.Need-mark-ok-requires
 mark-ok-requires c κs = search needs
@@ -49,7 +49,7 @@ returns-2 : tie.Need-returns-2
 returns-2 c = search (asked-cycle)
 
 returns-3 : tie.Need-returns-3
-returns-3 c = search (asked-marked)
+returns-3 c = search (asked-bad-mark)
 
 pub cycle-asked-spec : {M : Type 1} → statement M
 cycle-asked-spec =

@@ -20,13 +20,13 @@ use Rattle.interface.proofs.ridkostan_cycle.Tie as tie
 
 -- a is what C asked
 module _ (s : Setup) (t : State) (op : Operation) (x : Lent) (a : Asked) (ea : a ≡ askedOf t op) (out : Cycled) where
-  cycle-bad : a ≡ Asked.Bad → out ≡ refusedBy badRecord t → (out, x) ≡ cycleOut s t op x
+  cycle-none : a ≡ Asked.NoOperation → out ≡ refusedBy badRecord t → (out, x) ≡ cycleOut s t op x
   unfolding cycleIn
-  cycle-bad h e = rw (← ea, h, e)
+  cycle-none h e = rw (← ea, h, e)
 
-  cycle-marked : a ≡ Asked.Marked → out ≡ refusedBy (badMark (checkedOf s) x) t → (out, x) ≡ cycleOut s t op x
+  cycle-bad-mark : a ≡ Asked.BadMark → out ≡ refusedBy (badMark (checkedOf s) x) t → (out, x) ≡ cycleOut s t op x
   unfolding cycleIn
-  cycle-marked h e = rw (← ea, h, e)
+  cycle-bad-mark h e = rw (← ea, h, e)
 
   cycle-passed : (k : kept.State) (o : port.Operation) (q : passing.Cycled) (y : Lent) → a ≡ Asked.Cycle k o
       → (q, y) ≡ cycleOf s k o x → out ≡ cycledOut q → (out, y) ≡ cycleOut s t op x
@@ -61,7 +61,7 @@ cycled-out-requires : tie.Need-cycled-out-requires
 cycled-out-requires c κs = search needs
 
 returns : tie.Need-returns
-returns c = search (cycle-bad)
+returns c = search (cycle-none)
 
 same-length : tie.Need-same-length
 same-length c = search needs
@@ -76,7 +76,7 @@ same-length-4 : tie.Need-same-length-4
 same-length-4 c = search needs
 
 returns-2 : tie.Need-returns-2
-returns-2 c = search (cycle-marked)
+returns-2 c = search (cycle-bad-mark)
 
 same-length-5 : tie.Need-same-length-5
 same-length-5 c = search needs

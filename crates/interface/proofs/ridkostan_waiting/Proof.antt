@@ -23,9 +23,9 @@ module _ (s : Setup) (t : State) (b : ℕ) (x : Lent) (m : Bool) (em : m ≡ mar
   unfolding waitingOut
   waiting-told k w out h ek ew eo = rw (← em, h, ← ek, ← ew) eo
 
-  waiting-marked : (n : ℕ) → m ≡ false → n ≡ badMark (checkedOf s) x → told n 0 ≡ waitingOut s t b x
+  waiting-bad-mark : (n : ℕ) → m ≡ false → n ≡ badMark (checkedOf s) x → told n 0 ≡ waitingOut s t b x
   unfolding waitingOut
-  waiting-marked n h en = rw (← em, h, en)
+  waiting-bad-mark n h en = rw (← em, h, en)
 
 mark-ok-requires : tie.Need-mark-ok-requires
 mark-ok-requires c κs = search needs
@@ -46,7 +46,7 @@ bad-mark-requires : tie.Need-bad-mark-requires
 bad-mark-requires c κs = search needs
 
 returns-2 : tie.Need-returns-2
-returns-2 c = search (waiting-marked)
+returns-2 c = search (waiting-bad-mark)
 
 pub ridkostan-waiting-spec : {M : Type 1} → statement M
 ridkostan-waiting-spec =
