@@ -135,7 +135,7 @@ fn lengths_of(s: Setup) -> Lent
     requires { ⌜ Ranges s ⌝ }
     ensures { λ r. ⌜ r ≡ lentBy s ⌝ }
 {
-    let due = controller::lengths(s);
+    let due = refusals::lengths(s);
     Lent {
         answer: answers::DONE,
         memory: due.memory,
@@ -297,7 +297,7 @@ fn bad_mark(setup: Setup, memory: &[u32], rows: &[u32], entries: &[u32], heads: 
     let setup::Checked::Good(s) = Setup::checked(setup) else {
         return answers::BAD_SETUP;
     };
-    if controller::lengths_ok(s, memory, rows, entries, heads) {
+    if refusals::lengths_ok(s, memory, rows, entries, heads) {
         return answers::BAD_STATE;
     }
     answers::BAD_LENGTH
