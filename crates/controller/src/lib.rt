@@ -32,9 +32,10 @@ pub fn fresh_start(
     entries: &[u32],
     heads: &mut [u32],
 ) -> Started
-    ensures { λ r. ⌜ (r, lent (now (memory .entry)) (now (rows .exit)) (now (entries .entry)) (now (heads .exit))) ≡ freshOf setup t (lent (now (memory .entry)) (now (rows .entry)) (now (entries .entry)) (now (heads .entry))) ⌝ }
+    ensures { λ r. ⌜ (r, lent (now (memory .entry)) (now (rows .exit)) (now (entries .entry)) (now (heads .exit)))
+        ≡ freshOf setup t (lent (now (memory .entry)) (now (rows .entry)) (now (entries .entry)) (now (heads .entry))) ⌝ }
 {
-    match refusals::lent(setup, memory, rows, entries, heads) {
+    match refusals::exact(setup, memory, rows, entries, heads) {
         Standing::Refusal(answer) => Started { answer, state: t },
         Standing::Sound(_) => {
             clear(rows);
@@ -58,7 +59,8 @@ fn step(
     heads: &mut [u32],
 ) -> Cycled
     requires { ⌜ Ready s t (lent (now memory) (now rows) (now entries) (now heads)) ⌝ }
-    ensures { λ r. ⌜ (r, lent (now (memory .exit)) (now (rows .exit)) (now (entries .exit)) (now (heads .exit))) ≡ stepOf s t op (lent (now (memory .entry)) (now (rows .entry)) (now (entries .entry)) (now (heads .entry))) ⌝ }
+    ensures { λ r. ⌜ (r, lent (now (memory .exit)) (now (rows .exit)) (now (entries .exit)) (now (heads .exit)))
+        ≡ stepOf s t op (lent (now (memory .entry)) (now (rows .entry)) (now (entries .entry)) (now (heads .entry))) ⌝ }
 {
     let n = refusals::offered(s, t, op);
     if n != answers::DONE {
@@ -78,7 +80,8 @@ pub fn cycle(
     entries: &mut [u32],
     heads: &mut [u32],
 ) -> Cycled
-    ensures { λ r. ⌜ (r, lent (now (memory .exit)) (now (rows .exit)) (now (entries .exit)) (now (heads .exit))) ≡ cycleOf setup t op (lent (now (memory .entry)) (now (rows .entry)) (now (entries .entry)) (now (heads .entry))) ⌝ }
+    ensures { λ r. ⌜ (r, lent (now (memory .exit)) (now (rows .exit)) (now (entries .exit)) (now (heads .exit)))
+        ≡ cycleOf setup t op (lent (now (memory .entry)) (now (rows .entry)) (now (entries .entry)) (now (heads .entry))) ⌝ }
 {
     match refusals::standing(setup, t, memory, rows, entries, heads) {
         Standing::Refusal(n) => refusals::refuse(n, t),
@@ -96,7 +99,8 @@ pub fn waiting(
     entries: &[u32],
     heads: &[u32],
 ) -> Waiting
-    ensures { λ r. ⌜ r ≡ waitingOf setup t bank (lent (now (memory .entry)) (now (rows .entry)) (now (entries .entry)) (now (heads .entry))) ⌝ }
+    ensures { λ r. ⌜ r
+        ≡ waitingOf setup t bank (lent (now (memory .entry)) (now (rows .entry)) (now (entries .entry)) (now (heads .entry))) ⌝ }
 {
     match refusals::standing(setup, t, memory, rows, entries, heads) {
         Standing::Refusal(answer) => Waiting { answer, count: 0 },

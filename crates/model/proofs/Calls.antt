@@ -19,7 +19,7 @@ use Rattle.model.specs.declared.Standing.the-variants.{Sound, Refusal}
 use Rattle.model.specs.declared.Cycled.{Cycled}
 use Rattle.model.specs.Lent.{Lent}
 use Rattle.model.specs.Range.{lengthsOk, numbersOk, Ready}
-use Rattle.model.specs.Calls.{lentIn, lentOf, standingIn, standingOf, addressOk, offeredOf, stepOf, cycleIn, cycleOf}
+use Rattle.model.specs.Calls.{exactIn, exactOf, standingIn, standingOf, addressOk, offeredOf, stepOf, cycleIn, cycleOf}
 use Rattle.model.proofs.Tests.{pick-either}
 use Rattle.model.proofs.Range.{ready, ready-lengths, ready-numbers}
 use Rattle.model.proofs.Ready.{passed-ready}
@@ -34,10 +34,10 @@ picked-sound : (b : Bool) (f s : Setup) (n : ℕ) → pick b (Sound f) (Refusal 
 picked-sound true f s n h = (refl, cc)
 picked-sound false f s n h = let z : _≡_ {A = ℕ} 0 1 = cc in absurd (omega arith)
 
-lent-in-sound : (c : Checked) (s : Setup) (x : Lent) → lentIn c x ≡ Sound s → (c ≡ InRange s) × (lengthsOk s x ≡ true)
-unfolding lentIn
-lent-in-sound Refused s x h = let z : _≡_ {A = ℕ} 0 1 = cc in absurd (omega arith)
-lent-in-sound (InRange f) s x h =
+exact-in-sound : (c : Checked) (s : Setup) (x : Lent) → exactIn c x ≡ Sound s → (c ≡ InRange s) × (lengthsOk s x ≡ true)
+unfolding exactIn
+exact-in-sound Refused s x h = let z : _≡_ {A = ℕ} 0 1 = cc in absurd (omega arith)
+exact-in-sound (InRange f) s x h =
     let p = picked-sound (lengthsOk f x) f s badLength h in
     (ap InRange (p .1), subst (λ (f : Setup). lengthsOk f x ≡ true) (p .1) (p .0))
 
@@ -51,16 +51,16 @@ standing-in-sound (Sound f) s t x h =
 
 -- r is what the test answered
 module _ (g s : Setup) (x : Lent) {r : Standing} where
-  pub lent-ranges : r ≡ lentOf g x → r ≡ Sound s → Ranges s
-  lent-ranges e h = checked-ranges g s (lent-in-sound (checkedOf g) s x (sym e ∙ h) .0)
+  pub exact-ranges : r ≡ exactOf g x → r ≡ Sound s → Ranges s
+  exact-ranges e h = checked-ranges g s (exact-in-sound (checkedOf g) s x (sym e ∙ h) .0)
 
-  pub lent-lengths : r ≡ lentOf g x → r ≡ Sound s → lengthsOk s x ≡ true
-  lent-lengths e h = lent-in-sound (checkedOf g) s x (sym e ∙ h) .1
+  pub exact-lengths : r ≡ exactOf g x → r ≡ Sound s → lengthsOk s x ≡ true
+  exact-lengths e h = exact-in-sound (checkedOf g) s x (sym e ∙ h) .1
 
   pub standing-ready : (t : State) → r ≡ standingOf g t x → r ≡ Sound s → Ready s t x
   standing-ready t e h =
-      let p = standing-in-sound (lentOf g x) s t x (sym e ∙ h) in
-      let q = lent-in-sound (checkedOf g) s x (p .0) in
+      let p = standing-in-sound (exactOf g x) s t x (sym e ∙ h) in
+      let q = exact-in-sound (checkedOf g) s x (p .0) in
       ready s t x (checked-ranges g s (q .0)) (q .1) (p .1)
 
 ------------------------------------------------------------------------
@@ -68,7 +68,7 @@ module _ (g s : Setup) (x : Lent) {r : Standing} where
 
 module _ (g s : Setup) (c : checkedOf g ≡ InRange s) (t : State) (x : Lent) (r : Ready s t x) where
   pub ready-standing : standingOf g t x ≡ Sound s
-  unfolding lentIn standingIn
+  unfolding exactIn standingIn
   ready-standing = rw (c, ready-lengths s t x r, ready-numbers s t x r)
 
   pub ready-cycle : (op : Operation) → cycleOf g t op x ≡ stepOf s t op x

@@ -30,7 +30,6 @@ use Rattle.model.specs.Calls.{addressOk, standingOf, offeredOf, refused,
 use Rattle.model.specs.Runs.{Machine, replyOf, replies, after, afterAll, fresh}
 use Rattle.model.specs.Sram.{sram, due}
 use Rattle.model.specs.Ledger.{Ledger, ledger, freshLedger, waits, serviced, retires, arrives, full, given, noted, replied, entered}
-use Rattle.model.specs.Ledger as L
 use Rattle.model.specs.Promises.{Starts, reached, startWord, replyAt, promised, booked, ledgerAt, passing, historyFrom, history, Passes, retiringAt, arrivingAt, Emulates, ReadLeaves, NothingElse, NeverUnready, StopsExactly, DropsExactly, NeverBadState, TellsWaiting, RefusesWhole, StampsCycles, TurnsApart}
 use Rattle.theory.proofs.Concrete.{Legal, CSt, CRun, on, off, setup, reachedC}
 use Rattle.theory.proofs.Ledger.{Line, goes, stops, Goes, waiting, bookOf, reachedL}

@@ -17,17 +17,17 @@ use Rattle.model.specs.declared.Cycled.{Cycled}
 use Rattle.model.specs.Lent.{Lent, countOf}
 use Rattle.model.specs.Range.{lengthsOk, numbersOk}
 use Rattle.model.specs.Cycle.{passed}
-use Rattle.model.specs.Calls.{lentIn, standingIn, standingOf, addressOk, offeredOf, freshState, freshLent, started, freshIn, refused, stepOf, cycleIn, told, tellOf, waitingIn}
+use Rattle.model.specs.Calls.{exactIn, standingIn, standingOf, addressOk, offeredOf, freshState, freshLent, started, freshIn, refused, stepOf, cycleIn, told, tellOf, waitingIn}
 use Rattle.model.specs.Refusals.{within, StartsInOrder, RefusesInOrder, TellsInOrder}
 
 ------------------------------------------------------------------------
 -- 1 and 2, and a fresh start
 
 -- b is what the test of the ranges answers, l that of the lengths, n that of the numbers
-lent-by : (s : Setup) (x : Lent) (b : Bool) → lentIn (pick b (InRange s) Refused) x ≡ pick b (pick (lengthsOk s x) (Sound s) (Refusal badLength)) (Refusal badSetup)
-unfolding lentIn
-lent-by s x true = refl
-lent-by s x false = refl
+exact-by : (s : Setup) (x : Lent) (b : Bool) → exactIn (pick b (InRange s) Refused) x ≡ pick b (pick (lengthsOk s x) (Sound s) (Refusal badLength)) (Refusal badSetup)
+unfolding exactIn
+exact-by s x true = refl
+exact-by s x false = refl
 
 fresh-by : (s : Setup) (t : State) (x : Lent) (b l : Bool)
     → freshIn (pick b (pick l (Sound s) (Refusal badLength)) (Refusal badSetup)) t x
@@ -40,7 +40,7 @@ fresh-by s t x false l = refl
 pub starts-in-order : StartsInOrder
 starts-in-order g t x =
     let s : Setup = withDefaults g in
-    ap (λ (r : Standing). freshIn r t x) (lent-by s x (inRange s)) ∙ fresh-by s t x (inRange s) (lengthsOk s x)
+    ap (λ (r : Standing). freshIn r t x) (exact-by s x (inRange s)) ∙ fresh-by s t x (inRange s) (lengthsOk s x)
 
 ------------------------------------------------------------------------
 -- 1, 2 and 3
@@ -60,7 +60,7 @@ standing-table : (g : Setup) (t : State) (x : Lent)
     ≡ standing (withDefaults g) (inRange (withDefaults g)) (lengthsOk (withDefaults g) x) (numbersOk (withDefaults g) t (x .rows) (x .buffers))
 standing-table g t x =
     let s : Setup = withDefaults g in
-    ap (λ (r : Standing). standingIn r t x) (lent-by s x (inRange s)) ∙ standing-by s t x (inRange s) (lengthsOk s x)
+    ap (λ (r : Standing). standingIn r t x) (exact-by s x (inRange s)) ∙ standing-by s t x (inRange s) (lengthsOk s x)
 
 ------------------------------------------------------------------------
 -- A cycle

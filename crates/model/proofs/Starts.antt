@@ -11,14 +11,14 @@ use Rattle.model.specs.declared.State.{State}
 use Rattle.model.specs.declared.Standing.the-variants.{Sound, Refusal}
 use Rattle.model.specs.Lent.{Lent}
 use Rattle.model.specs.Range.{lengthsOk}
-use Rattle.model.specs.Calls.{lentIn, freshState, freshLent, freshIn}
+use Rattle.model.specs.Calls.{exactIn, freshState, freshLent, freshIn}
 use Rattle.model.specs.Runs.{Machine, fresh}
 use Rattle.model.specs.Promises.{Starts}
 
 -- b is what the test of the ranges answers, l what that of the lengths
 module _ (s : Setup) (t : State) (x : Lent) where
-  by-range : (b : Bool) → freshIn (lentIn (pick b (InRange s) Refused) x) t x .0 .answer ≡ done → b ≡ true
-  unfolding lentIn freshIn
+  by-range : (b : Bool) → freshIn (exactIn (pick b (InRange s) Refused) x) t x .0 .answer ≡ done → b ≡ true
+  unfolding exactIn freshIn
   by-range true h = refl
   by-range false h = absurd (omega arith)
 
@@ -34,13 +34,13 @@ module _ (g : Setup) (w : Machine) (h : Starts g w) where
   pub starts-checked : checkedOf g ≡ InRange (withDefaults g)
   starts-checked = rw in-range
 
-  start-answer : freshIn (lentIn (InRange (withDefaults g)) (w .1)) (w .0) (w .1) .0 .answer ≡ done
+  start-answer : freshIn (exactIn (InRange (withDefaults g)) (w .1)) (w .0) (w .1) .0 .answer ≡ done
   start-answer = rw starts-checked at h
 
   pub starts-lengths : lengthsOk (withDefaults g) (w .1) ≡ true
-  unfolding lentIn
+  unfolding exactIn
   starts-lengths = by-lengths (withDefaults g) (w .0) (w .1) (lengthsOk (withDefaults g) (w .1)) start-answer
 
   pub fresh-machine : fresh g w ≡ (freshState, freshLent (withDefaults g) (w .1))
-  unfolding lentIn freshIn
+  unfolding exactIn freshIn
   fresh-machine = rw (starts-checked, starts-lengths)

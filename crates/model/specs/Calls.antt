@@ -26,21 +26,21 @@ use Rattle.model.specs.Cycle.{passed}
 ------------------------------------------------------------------------
 -- 1, 2 and 3 look at the setup, the lengths and the numbers, whatever the call
 
--- 1, then 2
-unfoldable pub lentIn : Checked → Lent → Standing
-lentIn Refused x = Refusal badSetup
-lentIn (Good s) x = pick (lengthsOk s x) (Sound s) (Refusal badLength)
+-- 1, then 2: a setup in range, and exact lengths
+unfoldable pub exactIn : Checked → Lent → Standing
+exactIn Refused x = Refusal badSetup
+exactIn (Good s) x = pick (lengthsOk s x) (Sound s) (Refusal badLength)
 
-abbrev pub lentOf : Setup → Lent → Standing
-lentOf s x = lentIn (checkedOf s) x
+abbrev pub exactOf : Setup → Lent → Standing
+exactOf s x = exactIn (checkedOf s) x
 
--- then 3
+-- then 3: every number in the range its meaning allows
 unfoldable pub standingIn : Standing → State → Lent → Standing
 standingIn (Refusal n) t x = Refusal n
 standingIn (Sound s) t x = pick (numbersOk s t (x .rows) (x .buffers)) (Sound s) (Refusal badState)
 
 abbrev pub standingOf : Setup → State → Lent → Standing
-standingOf s t x = standingIn (lentOf s x) t x
+standingOf s t x = standingIn (exactOf s x) t x
 
 ------------------------------------------------------------------------
 -- 7 and 4 look at each operation
@@ -73,7 +73,7 @@ freshIn (Refusal n) t x = (started n t, x)
 freshIn (Sound s) t x = (started done freshState, freshLent s x)
 
 abbrev pub freshOf : Setup → State → Lent → Started × Lent
-freshOf s t x = freshIn (lentOf s x) t x
+freshOf s t x = freshIn (exactOf s x) t x
 
 ------------------------------------------------------------------------
 -- A cycle meets 1, 2, 3, 7, 4 in this order; then 6 before 5

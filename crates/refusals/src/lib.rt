@@ -5,7 +5,7 @@ ghost use lib.ListN.{length};
 ghost use Rattle.setup.specs.Setup.{Ranges};
 ghost use Rattle.model.specs.Lent.{buffersIn, lent};
 ghost use Rattle.model.specs.Range.{lengthsOf, lengthsOk, numbersOk};
-ghost use Rattle.model.specs.Calls.{lentOf, standingOf, addressOk, offeredOf, refusedBy, freshState, tellOf};
+ghost use Rattle.model.specs.Calls.{exactOf, standingOf, addressOk, offeredOf, refusedBy, freshState, tellOf};
 ghost use Rattle.buffers.specs.Bank.{Room};
 use model::Cycled;
 use model::Lengths;
@@ -35,7 +35,8 @@ pub fn lengths(s: Setup) -> Lengths
 // Whether every lent length is exact.
 pub fn lengths_ok(s: Setup, memory: &[u32], rows: &[u32], entries: &[u32], heads: &[u32]) -> bool
     requires { ⌜ Ranges s ⌝ }
-    ensures { λ r. ⌜ r ≡ lengthsOk s (lent (now (memory .entry)) (now (rows .entry)) (now (entries .entry)) (now (heads .entry))) ⌝ }
+    ensures { λ r. ⌜ r
+        ≡ lengthsOk s (lent (now (memory .entry)) (now (rows .entry)) (now (entries .entry)) (now (heads .entry))) ⌝ }
 {
     let due = lengths(s);
     (memory.len() == due.memory as usize)
@@ -45,8 +46,9 @@ pub fn lengths_ok(s: Setup, memory: &[u32], rows: &[u32], entries: &[u32], heads
 }
 
 // 1 and 2: the setup in range, and every length exact.
-pub fn lent(setup: Setup, memory: &[u32], rows: &[u32], entries: &[u32], heads: &[u32]) -> Standing
-    ensures { λ r. ⌜ r ≡ lentOf setup (lent (now (memory .entry)) (now (rows .entry)) (now (entries .entry)) (now (heads .entry))) ⌝ }
+pub fn exact(setup: Setup, memory: &[u32], rows: &[u32], entries: &[u32], heads: &[u32]) -> Standing
+    ensures { λ r. ⌜ r
+        ≡ exactOf setup (lent (now (memory .entry)) (now (rows .entry)) (now (entries .entry)) (now (heads .entry))) ⌝ }
 {
     let Checked::Good(s) = Setup::checked(setup) else {
         return Standing::Refusal(answers::BAD_SETUP);
@@ -68,7 +70,7 @@ fn numbers_ok(s: Setup, t: State, rows: &[u32], entries: &[u32], heads: &[u32]) 
     turn & table & entries::buffers_ok(s, n, entries, heads)
 }
 
-// 1, 2 and 3: besides, every number in its range. A call that meets none of them changes nothing before this.
+// 1, 2 and 3: besides, every number in the range its meaning allows.
 pub fn standing(
     setup: Setup,
     t: State,
@@ -77,9 +79,10 @@ pub fn standing(
     entries: &[u32],
     heads: &[u32],
 ) -> Standing
-    ensures { λ r. ⌜ r ≡ standingOf setup t (lent (now (memory .entry)) (now (rows .entry)) (now (entries .entry)) (now (heads .entry))) ⌝ }
+    ensures { λ r. ⌜ r
+        ≡ standingOf setup t (lent (now (memory .entry)) (now (rows .entry)) (now (entries .entry)) (now (heads .entry))) ⌝ }
 {
-    match lent(setup, memory, rows, entries, heads) {
+    match exact(setup, memory, rows, entries, heads) {
         Standing::Refusal(n) => Standing::Refusal(n),
         Standing::Sound(s) => {
             if numbers_ok(s, t, rows, entries, heads) {

@@ -10,7 +10,7 @@ use Rattle.port.specs.declared.Operation.the-variants.{Idle, Read, Write}
 use Rattle.map.specs.Map.{bankOf, cellOf}
 use Rattle.model.specs.Cycle.{filledBelow, carried, servedBank, servedBelow, scan, placed, retired, arrived, afterService, passed}
 use Rattle.model.specs.Range.{rowsOk, entriesOk, buffersOk}
-use Rattle.model.specs.Calls.{lentIn, standingIn, offeredOf, stepOf, cycleIn}
+use Rattle.model.specs.Calls.{exactIn, standingIn, offeredOf, stepOf, cycleIn}
 use Rattle.records.specs.Records.{numberAt, bytesOf, operationFrom, operationOf, operationBytes, setupFields, allowed, setupOf, setupBytes}
 use Rattle.listing.specs.Listing.{digitsIn, decimal, deliveryText, field, lineOf}
 use Rattle.replay.specs.Replies.{bytesFor}
@@ -51,5 +51,5 @@ sheet =
     ∷ []
 
 examples : map (λ (e : Example). printed (e .file) (e .input)) sheet ≡ map (λ (e : Example). bytes (e .text)) sheet
-unfolding cellOf bankOf filledBelow carried servedBank servedBelow scan placed retired arrived afterService passed rowsOk entriesOk buffersOk lentIn standingIn offeredOf stepOf cycleIn numberAt bytesOf operationFrom operationOf operationBytes setupFields allowed setupOf setupBytes digitsIn decimal deliveryText field lineOf openingFor setupLine withRecord listedBelow printedIn bytesFor
+unfolding cellOf bankOf filledBelow carried servedBank servedBelow scan placed retired arrived afterService passed rowsOk entriesOk buffersOk exactIn standingIn offeredOf stepOf cycleIn numberAt bytesOf operationFrom operationOf operationBytes setupFields allowed setupOf setupBytes digitsIn decimal deliveryText field lineOf openingFor setupLine withRecord listedBelow printedIn bytesFor
 examples = refl

@@ -1,7 +1,6 @@
 -- `controller::cycle` meets its contract: each return knows what the test of 1, 2 and 3 answered. Assumes nothing.
 use Prim.Native.Nat.{ℕ}
 use mathlib.Core.Path.{_≡_}
-use mathlib.Core.List.{List}
 use borrow.Author.Needs.{needs}
 use Rattle.setup.specs.declared.Setup.{Setup}
 use Rattle.port.specs.declared.Operation.{Operation}
@@ -9,7 +8,7 @@ use Rattle.model.specs.declared.State.{State}
 use Rattle.model.specs.declared.Standing.{Standing}
 use Rattle.model.specs.declared.Standing.the-variants.{Sound, Refusal}
 use Rattle.model.specs.declared.Cycled.{Cycled}
-use Rattle.model.specs.Lent.{Lent, lent}
+use Rattle.model.specs.Lent.{Lent}
 use Rattle.model.specs.Calls.{standingOf, refusedBy, stepOf, cycleIn, cycleOf}
 use Rattle.model.proofs.Calls.{standing-ready}
 use Rattle.controller.proofs.cycle.Statement.{statement}

@@ -15,13 +15,13 @@ use Rattle.model.specs.declared.Standing.{Standing}
 use Rattle.model.specs.declared.Standing.the-variants.{Sound, Refusal}
 use Rattle.model.specs.Lent.{lent}
 use Rattle.model.specs.Range.{lengthsOk}
-use Rattle.model.specs.Calls.{lentOf, freshState, started, freshIn, freshOf}
-use Rattle.model.proofs.Calls.{lent-lengths}
+use Rattle.model.specs.Calls.{exactOf, freshState, started, freshIn, freshOf}
+use Rattle.model.proofs.Calls.{exact-lengths}
 use Rattle.controller.proofs.fresh_start.Statement.{statement}
 use Rattle.controller.proofs.fresh_start.Tie as tie
 
 -- k is what the test answered
-module _ (g : Setup) (t : State) (memory rows entries heads : List ℕ) (k : Standing) (ek : k ≡ lentOf g (lent memory rows entries heads)) where
+module _ (g : Setup) (t : State) (memory rows entries heads : List ℕ) (k : Standing) (ek : k ≡ exactOf g (lent memory rows entries heads)) where
   fresh-refused : (n : ℕ) → k ≡ Refusal n → (started n t, lent memory rows entries heads) ≡ freshOf g t (lent memory rows entries heads)
   unfolding freshIn
   fresh-refused n h = rw (← ek, h)
@@ -30,13 +30,13 @@ module _ (g : Setup) (t : State) (memory rows entries heads : List ℕ) (k : Sta
       → t₀ ≡ freshState → (started done t₀, lent memory r entries h) ≡ freshOf g t (lent memory rows entries heads)
   unfolding freshIn
   fresh-done s z t₀ r h er eh et =
-      let l : lengthsOk s (lent memory rows entries heads) ≡ true = lent-lengths g s (lent memory rows entries heads) ek z in
+      let l : lengthsOk s (lent memory rows entries heads) ≡ true = exact-lengths g s (lent memory rows entries heads) ek z in
       let m : length rows ≡ 4 * s .c = search (and-l, and-r, eqb-true) depth 12 in
       let n : length heads ≡ 2 * banksOf s = search (and-l, and-r, eqb-true) depth 12 in
       rw (← ek, z, er, eh, et, m, n)
 
-lent-requires : tie.Need-lent-requires
-lent-requires c κs = search needs
+exact-requires : tie.Need-exact-requires
+exact-requires c κs = search needs
 
 enum-known-answer : tie.Need-enum-known-answer
 enum-known-answer c = search needs
@@ -75,7 +75,7 @@ pub fresh-start-spec : {M : Type 1} → statement M
 fresh-start-spec =
     tie.close
     (tie.spec
-    lent-requires
+    exact-requires
     enum-known-answer
     enum-told
     clear-requires

@@ -14,14 +14,14 @@ use Rattle.model.specs.declared.Standing.{Standing}
 use Rattle.model.specs.declared.Standing.the-variants.{Sound, Refusal}
 use Rattle.model.specs.Lent.{Lent, lent, buffersIn}
 use Rattle.model.specs.Range.{lengthsOk, numbersOk}
-use Rattle.model.specs.Calls.{lentOf, standingIn, standingOf}
-use Rattle.model.proofs.Calls.{lent-ranges, lent-lengths}
+use Rattle.model.specs.Calls.{exactOf, standingIn, standingOf}
+use Rattle.model.proofs.Calls.{exact-ranges, exact-lengths}
 use Rattle.buffers.specs.Bank.{Room}
 use Rattle.refusals.proofs.standing.Statement.{statement}
 use Rattle.refusals.proofs.standing.Tie as tie
 
 -- r is what setup and lengths answered, b what the test of the numbers answered
-module _ (g : Setup) (t : State) (x : Lent) (r : Standing) (er : r ≡ lentOf g x) where
+module _ (g : Setup) (t : State) (x : Lent) (r : Standing) (er : r ≡ exactOf g x) where
   standing-refusal : (n : ℕ) → r ≡ Refusal n → Refusal n ≡ standingOf g t x
   unfolding standingIn
   standing-refusal n h = rw (← er, h)
@@ -35,23 +35,23 @@ module _ (g : Setup) (t : State) (x : Lent) (r : Standing) (er : r ≡ lentOf g 
     unfolding standingIn
     standing-state f = rw (← er, h, ← eb, f)
 
-module _ (g : Setup) (memory rows entries heads : List ℕ) (r : Standing) (er : r ≡ lentOf g (lent memory rows entries heads)) (s : Setup) (h : r ≡ Sound s) where
+module _ (g : Setup) (memory rows entries heads : List ℕ) (r : Standing) (er : r ≡ exactOf g (lent memory rows entries heads)) (s : Setup) (h : r ≡ Sound s) where
   rows-exact : length rows ≡ 4 * s .c
   rows-exact =
-      let l : lengthsOk s (lent memory rows entries heads) ≡ true = lent-lengths g s (lent memory rows entries heads) er h in
+      let l : lengthsOk s (lent memory rows entries heads) ≡ true = exact-lengths g s (lent memory rows entries heads) er h in
       search (and-l, and-r, eqb-true) depth 12
 
   buffers-exact : Room s (buffersIn entries heads)
   buffers-exact =
-      let l : lengthsOk s (lent memory rows entries heads) ≡ true = lent-lengths g s (lent memory rows entries heads) er h in
+      let l : lengthsOk s (lent memory rows entries heads) ≡ true = exact-lengths g s (lent memory rows entries heads) er h in
       record {
-        sizes = lent-ranges g s (lent memory rows entries heads) er h .sizes;
+        sizes = exact-ranges g s (lent memory rows entries heads) er h .sizes;
         entries-long = search (and-l, and-r, eqb-true) depth 12;
         heads-long = search (and-l, and-r, eqb-true) depth 12;
       }
 
-lent-requires : tie.Need-lent-requires
-lent-requires c κs = search needs
+exact-requires : tie.Need-exact-requires
+exact-requires c κs = search needs
 
 enum-known-n : tie.Need-enum-known-n
 enum-known-n c = search needs
@@ -60,7 +60,7 @@ enum-known-s : tie.Need-enum-known-s
 enum-known-s c = search needs
 
 numbers-ok-requires : tie.Need-numbers-ok-requires
-numbers-ok-requires c κs = (search (lent-ranges), search (rows-exact), search (buffers-exact))
+numbers-ok-requires c κs = (search (exact-ranges), search (rows-exact), search (buffers-exact))
 
 returns : tie.Need-returns
 returns c = search (standing-sound)
@@ -75,7 +75,7 @@ pub standing-spec : {M : Type 1} → statement M
 standing-spec =
     tie.close
     (tie.spec
-    lent-requires
+    exact-requires
     enum-known-n
     enum-known-s
     numbers-ok-requires
