@@ -34,7 +34,7 @@ pub extern "C" fn ridkostan_lengths(setup: Setup) -> Lent
     let setup::Checked::Good(s) = Setup::checked(setup) else {
         return forms::no_lengths();
     };
-    forms::lent_out(controller::lengths(s))
+    forms::lent_out(refusals::lengths(s))
 }
 
 // A fresh start.
@@ -69,7 +69,7 @@ fn bad_mark(setup: Setup, memory: &[u32], rows: &[u32], entries: &[u32], heads: 
     let setup::Checked::Good(s) = Setup::checked(setup) else {
         return answers::BAD_SETUP;
     };
-    if controller::lengths_ok(s, memory, rows, entries, heads) {
+    if refusals::lengths_ok(s, memory, rows, entries, heads) {
         return answers::BAD_STATE;
     }
     answers::BAD_LENGTH

@@ -3,19 +3,19 @@ use mathlib.Core.Path.{refl}
 use Rattle.map.specs.Map.{bankOf, cellOf}
 use Rattle.model.specs.Cycle.{filledBelow, carried, servedBank, servedBelow, scan, placed, retired, arrived, afterService, passed}
 use Rattle.model.specs.Range.{rowsOk, entriesOk, buffersOk}
-use Rattle.model.specs.Calls.{startOf, freshIn, refusalOf, turnOf, cycleIn}
+use Rattle.model.specs.Calls.{exactIn, standingIn, offeredOf, freshIn, stepOf, cycleIn}
 use Rattle.model.specs.Runs.{replies, afterAll}
 use Rattle.model.specs.Promises.{historyFrom}
 use Rattle.model.specs.Examples.{MemoryLags, DroppedWriteTells, DroppedReadTells}
 
 pub memory-lags : MemoryLags
-unfolding cellOf bankOf filledBelow carried servedBank servedBelow scan placed retired arrived afterService passed rowsOk entriesOk buffersOk startOf freshIn refusalOf turnOf cycleIn afterAll historyFrom
+unfolding cellOf bankOf filledBelow carried servedBank servedBelow scan placed retired arrived afterService passed rowsOk entriesOk buffersOk exactIn standingIn offeredOf freshIn stepOf cycleIn afterAll historyFrom
 memory-lags = (refl, refl)
 
 pub dropped-write-tells : DroppedWriteTells
-unfolding cellOf bankOf filledBelow carried servedBank servedBelow scan placed retired arrived afterService passed rowsOk entriesOk buffersOk startOf freshIn refusalOf turnOf cycleIn replies
+unfolding cellOf bankOf filledBelow carried servedBank servedBelow scan placed retired arrived afterService passed rowsOk entriesOk buffersOk exactIn standingIn offeredOf freshIn stepOf cycleIn replies
 dropped-write-tells = (refl, refl)
 
 pub dropped-read-tells : DroppedReadTells
-unfolding cellOf bankOf filledBelow carried servedBank servedBelow scan placed retired arrived afterService passed rowsOk entriesOk buffersOk startOf freshIn refusalOf turnOf cycleIn replies
+unfolding cellOf bankOf filledBelow carried servedBank servedBelow scan placed retired arrived afterService passed rowsOk entriesOk buffersOk exactIn standingIn offeredOf freshIn stepOf cycleIn replies
 dropped-read-tells = (refl, refl)

@@ -23,7 +23,7 @@ use Rattle.model.specs.declared.Cycled.{Cycled}
 use Rattle.model.specs.Lent.{Lent}
 use Rattle.model.specs.Range.{Ready, lengthsOk}
 use Rattle.model.specs.Cycle.{passed}
-use Rattle.model.specs.Calls.{addressOk, refusalOf, refused, turnOf}
+use Rattle.model.specs.Calls.{addressOk, offeredOf, refused, stepOf}
 use Rattle.model.specs.Runs.{Machine, call, leftBy, replyOf, after, fresh}
 use Rattle.model.specs.Sram.{due}
 use Rattle.model.specs.Ledger.{Ledger, freshLedger, serviced, replied, entered}
@@ -36,7 +36,7 @@ use Rattle.theory.proofs.Machine.{Run, reply, gives}
 use Rattle.theory.proofs.Machine as M
 use Rattle.theory.proofs.Port.{Matches, byCycle, by-fresh, by-next, same-reply, same-state, owes}
 use Rattle.model.proofs.Ready.{passed-ready, fresh-ready}
-use Rattle.model.proofs.Calls.{refusal-ready, cycle-turn, checked-ranges}
+use Rattle.model.proofs.Calls.{checked-ranges, ready-cycle}
 use Rattle.model.proofs.Starts.{starts-checked, starts-lengths, fresh-machine}
 use Rattle.model.proofs.Steps.{stateBy, passed-answer, passed-state, passed-stamp}
 use Rattle.model.proofs.Config.{configOf, legal, shownOp, shownDelivery}
@@ -128,31 +128,31 @@ module _ (g : Setup) (w₀ : Machine) where
         go false (on c) (M.on y) p i m = sym (i .0)
 
     -- the three ways of a call
-    by-turn : (q : Cycled × Lent) → turnOf s (w .0) op (w .1) ≡ q → call g op w ≡ q
-    by-turn q p = cycle-turn g s (starts-checked g w₀ start) (w .0) op (w .1) ∙ p
+    by-step : (q : Cycled × Lent) → stepOf s (w .0) op (w .1) ≡ q → call g op w ≡ q
+    by-step q p = ready-cycle g s (starts-checked g w₀ start) (w .0) (w .1) (k .ready) op ∙ p
 
-    refuses : (n : ℕ) → refusalOf s (w .0) op (w .1) ≡ n → eqb n done ≡ false → call g op w ≡ refused n (w .0) (w .1)
-    unfolding turnOf
-    refuses n p h = by-turn (refused n (w .0) (w .1)) (rw (p, h))
+    refuses : (n : ℕ) → offeredOf s (w .0) op ≡ n → eqb n done ≡ false → call g op w ≡ refused n (w .0) (w .1)
+    unfolding stepOf
+    refuses n p h = by-step (refused n (w .0) (w .1)) (rw (p, h))
 
-    passes : refusalOf s (w .0) op (w .1) ≡ done → call g op w ≡ passed s (w .0) op (w .1)
-    unfolding turnOf
-    passes p = by-turn (passed s (w .0) op (w .1)) (rw p)
+    passes : offeredOf s (w .0) op ≡ done → call g op w ≡ passed s (w .0) op (w .1)
+    unfolding stepOf
+    passes p = by-step (passed s (w .0) op (w .1)) (rw p)
 
     Kept : Cycled × Lent → Type 0
     Kept q = (q .0 .reply ≡ e .0) × Follows (leftBy q) (e .1)
 
     kept-stopped : w .0 .stopped ≡ true → Kept (call g op w)
-    unfolding Kept
+    unfolding Kept offeredOf
     kept-stopped h =
-        let p : refusalOf s (w .0) op (w .1) ≡ stopped = refusal-ready s (w .0) op (w .1) (k .ready) ∙ rw h in
+        let p : offeredOf s (w .0) op ≡ stopped = rw h in
         let q : e ≡ (replied stopped None 0, l) = entered-halted s (startWord g w₀) op l (sym marks ∙ h) in
         rw (refuses stopped p refl, q) (refl, k)
 
     kept-address : w .0 .stopped ≡ false → addressOk s op ≡ false → Kept (call g op w)
-    unfolding Kept
+    unfolding Kept offeredOf
     kept-address h a =
-        let p : refusalOf s (w .0) op (w .1) ≡ badAddress = refusal-ready s (w .0) op (w .1) (k .ready) ∙ rw (h, a) in
+        let p : offeredOf s (w .0) op ≡ badAddress = rw (h, a) in
         let q : e ≡ (replied badAddress None 0, l) = entered-refused s (startWord g w₀) op l (sym marks ∙ h) a in
         rw (refuses badAddress p refl, q) (refl, k)
 
@@ -232,9 +232,9 @@ module _ (g : Setup) (w₀ : Machine) where
           rw (n, by-next (merging s) (configOf s) (s .k) words (k .ops) o) (agrees .1)
 
       kept-passed : Kept (call g op w)
-      unfolding Kept
+      unfolding Kept offeredOf
       kept-passed =
-          let p : refusalOf s (w .0) op (w .1) ≡ done = refusal-ready s (w .0) op (w .1) (k .ready) ∙ rw (h, a) in
+          let p : offeredOf s (w .0) op ≡ done = rw (h, a) in
           rw (passes p) (
             same-replies _ _ answers deliveries stamped,
             record {

@@ -12,8 +12,7 @@ use borrow.Author.Tests.{lt-ltb}
 use Rattle.answers.specs.Answers.{done, badAddress, dropped, stopping, stopped}
 use Rattle.choice.specs.Choice.{pick}
 use Rattle.setup.specs.declared.Setup.{Setup}
-use Rattle.setup.specs.declared.Checked.{Checked}
-use Rattle.setup.specs.declared.Checked.the-variants.{Good as InRange, Refused}
+use Rattle.setup.specs.declared.Checked.the-variants.{Good as InRange}
 use Rattle.setup.specs.Setup.{Ranges, banksOf, merging, withDefaults, checkedOf}
 use Rattle.map.specs.declared.Address.{Address}
 use Rattle.port.specs.declared.Operation.{Operation}
@@ -22,10 +21,12 @@ use Rattle.port.specs.declared.Delivery.{Delivery}
 use Rattle.port.specs.declared.Delivery.the-variants.{None, Unready, Word}
 use Rattle.port.specs.declared.Reply.{Reply}
 use Rattle.model.specs.declared.State.{State}
+use Rattle.model.specs.declared.Standing.{Standing}
+use Rattle.model.specs.declared.Standing.the-variants.{Sound, Refusal}
 use Rattle.model.specs.Lent.{Lent, countOf}
 use Rattle.model.specs.Range.{Ready}
 use Rattle.model.specs.Cycle.{passed}
-use Rattle.model.specs.Calls.{addressOk, refusalOf, refused, turnOf, cycleIn, told, questionOf, waitingIn, waitingOf}
+use Rattle.model.specs.Calls.{addressOk, standingOf, offeredOf, refused, stepOf, cycleIn, told, tellOf, waitingIn, waitingOf}
 use Rattle.model.specs.Runs.{Machine, replyOf, replies, after, afterAll, fresh}
 use Rattle.model.specs.Sram.{sram, due}
 use Rattle.model.specs.Ledger.{Ledger, ledger, freshLedger, waits, serviced, retires, arrives, full, given, noted, replied, entered}
@@ -34,9 +35,8 @@ use Rattle.theory.proofs.Concrete.{Legal, CSt, CRun, on, off, reachedC}
 use Rattle.theory.proofs.Machine.{Run}
 use Rattle.theory.proofs.Machine as M
 use Rattle.theory.proofs.Port.{Matches, byCycle, same-state, turn-position}
-use Rattle.model.proofs.Range.{ready-lengths, ready-numbers}
 use Rattle.model.proofs.Ready.{c-least-one}
-use Rattle.model.proofs.Calls.{checked-ranges}
+use Rattle.model.proofs.Calls.{checked-ranges, ready-standing}
 use Rattle.model.proofs.Starts.{starts-checked}
 use Rattle.model.proofs.Steps.{passed-answer}
 use Rattle.model.proofs.Config.{configOf, legal}
@@ -315,13 +315,10 @@ read-leaves g w ops more a op h taken far k = go (tells-run g w (ops ++ Read a �
 ------------------------------------------------------------------------
 -- The question, refusals, turn and position
 
-question-of : (s : Setup) (t : State) (b : ℕ) (x : Lent) → Ready s t x → b < banksOf s → questionOf s t b x ≡ told done (countOf (x .buffers .heads) b)
-unfolding questionOf
-question-of s t b x r h = rw (ready-lengths s t x r, ready-numbers s t x r, lt-ltb b (banksOf s) h)
-
-waiting-good : (g s : Setup) → checkedOf g ≡ InRange s → (t : State) (b : ℕ) (x : Lent) → waitingOf g t b x ≡ questionOf s t b x
-unfolding waitingIn
-waiting-good g s c t b x = ap (λ (k : Checked). waitingIn k t b x) c
+ready-waiting : (g s : Setup) → checkedOf g ≡ InRange s → (t : State) (b : ℕ) (x : Lent) → Ready s t x → b < banksOf s
+    → waitingOf g t b x ≡ told done (countOf (x .buffers .heads) b)
+unfolding waitingIn tellOf
+ready-waiting g s c t b x r h = rw (ready-standing g s c t x r, lt-ltb b (banksOf s) h)
 
 -- a buffer holds what the ledger counts, going or stopped
 buffer-holds : (s : Setup) (t : ℕ) (l : Ledger) (m : Bool) (c : CSt ℕ) (n : Run ℕ) → Matches (pick m (off c) (on c)) n → BooksRun s t l n
@@ -333,8 +330,7 @@ buffer-holds s t l false c (M.off y) k i b h = absurd k
 
 pub tells-waiting : TellsWaiting
 tells-waiting g w ops b h l =
-    waiting-good g s (starts-checked g w h) (m .0) b (m .1)
-    ∙ question-of s (m .0) b (m .1) (k .ready) l
+    ready-waiting g s (starts-checked g w h) (m .0) b (m .1) (k .ready) l
     ∙ ap (told done) count
   where
     s : Setup
@@ -358,19 +354,19 @@ tells-waiting g w ops b h l =
         ∙ buffer-holds s (length (k .ops)) (ledgerAt g w ops) (m .0 .stopped) (shown s (m .0) (m .1)) y
         (subst (λ (c : CRun ℕ). Matches c y) (sym (k .shows)) (same-state (merging s) (configOf s) (s .k) (λ c. getD (w .1 .memory) c 0) fits (k .ops))) (k .books) b l
 
-refuses-in : (c : Checked) (t : State) (op : Operation) (x : Lent)
+refuses-in : (c : Standing) (t : State) (op : Operation) (x : Lent)
     → Passes (cycleIn c t op x .0 .reply .answer) ⊎ (cycleIn c t op x ≡ refused (cycleIn c t op x .0 .reply .answer) t x)
-unfolding cycleIn turnOf
-refuses-in Refused t op x = inr refl
-refuses-in (InRange s) t op x = go (eqb (refusalOf s t op x) done)
+unfolding cycleIn stepOf
+refuses-in (Refusal n) t op x = inr refl
+refuses-in (Sound s) t op x = go (eqb (offeredOf s t op) done)
   where
-    go : (b : Bool) → Passes (pick b (passed s t op x) (refused (refusalOf s t op x) t x) .0 .reply .answer)
-        ⊎ (pick b (passed s t op x) (refused (refusalOf s t op x) t x) ≡ refused (pick b (passed s t op x) (refused (refusalOf s t op x) t x) .0 .reply .answer) t x)
+    go : (b : Bool) → Passes (pick b (passed s t op x) (refused (offeredOf s t op) t x) .0 .reply .answer)
+        ⊎ (pick b (passed s t op x) (refused (offeredOf s t op) t x) ≡ refused (pick b (passed s t op x) (refused (offeredOf s t op) t x) .0 .reply .answer) t x)
     go true = inl (passed-answer s t op x)
     go false = inr refl
 
 pub refuses-whole : RefusesWhole
-refuses-whole g t op x = refuses-in (checkedOf g) t op x
+refuses-whole g t op x = refuses-in (standingOf g t x) t op x
 
 -- the turn and the position of what is reached are its cycle number's
 module _ (g : Setup) (w : Machine) (h : Starts g w) where

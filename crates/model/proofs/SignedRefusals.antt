@@ -11,22 +11,59 @@ use Rattle.setup.specs.declared.Checked.the-variants.{Good as InRange, Refused}
 use Rattle.port.specs.declared.Operation.{Operation}
 use Rattle.port.specs.declared.Operation.the-variants.{Idle, Read, Write}
 use Rattle.model.specs.declared.State.{State}
+use Rattle.model.specs.declared.Standing.{Standing}
+use Rattle.model.specs.declared.Standing.the-variants.{Sound, Refusal}
 use Rattle.model.specs.declared.Cycled.{Cycled}
 use Rattle.model.specs.Lent.{Lent, countOf}
 use Rattle.model.specs.Range.{lengthsOk, numbersOk}
 use Rattle.model.specs.Cycle.{passed}
-use Rattle.model.specs.Calls.{freshState, freshLent, started, startOf, freshIn, addressOk, refusalOf, refused, turnOf, cycleIn, told, questionOf, waitingIn}
+use Rattle.model.specs.Calls.{exactIn, standingIn, standingOf, addressOk, offeredOf, freshState, freshLent, started, freshIn, refused, stepOf, cycleIn, told, tellOf, waitingIn}
 use Rattle.model.specs.Refusals.{within, StartsInOrder, RefusesInOrder, TellsInOrder}
 
-start-by : (s : Setup) (t : State) (x : Lent) (b : Bool)
-    → freshIn (pick b (InRange s) Refused) t x
-    ≡ pick b (pick (lengthsOk s x) (started done freshState, freshLent s x) (started badLength t, x)) (started badSetup t, x)
-unfolding freshIn startOf
-start-by s t x true = refl
-start-by s t x false = refl
+------------------------------------------------------------------------
+-- 1 and 2, and a fresh start
+
+-- b is what the test of the ranges answers, l that of the lengths, n that of the numbers
+exact-by : (s : Setup) (x : Lent) (b : Bool) → exactIn (pick b (InRange s) Refused) x ≡ pick b (pick (lengthsOk s x) (Sound s) (Refusal badLength)) (Refusal badSetup)
+unfolding exactIn
+exact-by s x true = refl
+exact-by s x false = refl
+
+fresh-by : (s : Setup) (t : State) (x : Lent) (b l : Bool)
+    → freshIn (pick b (pick l (Sound s) (Refusal badLength)) (Refusal badSetup)) t x
+    ≡ pick b (pick l (started done freshState, freshLent s x) (started badLength t, x)) (started badSetup t, x)
+unfolding freshIn
+fresh-by s t x true true = refl
+fresh-by s t x true false = refl
+fresh-by s t x false l = refl
 
 pub starts-in-order : StartsInOrder
-starts-in-order g t x = start-by (withDefaults g) t x (inRange (withDefaults g))
+starts-in-order g t x =
+    let s : Setup = withDefaults g in
+    ap (λ (r : Standing). freshIn r t x) (exact-by s x (inRange s)) ∙ fresh-by s t x (inRange s) (lengthsOk s x)
+
+------------------------------------------------------------------------
+-- 1, 2 and 3
+
+abbrev standing : Setup → Bool → Bool → Bool → Standing
+standing s b l n = pick b (pick l (pick n (Sound s) (Refusal badState)) (Refusal badLength)) (Refusal badSetup)
+
+standing-by : (s : Setup) (t : State) (x : Lent) (b l : Bool)
+    → standingIn (pick b (pick l (Sound s) (Refusal badLength)) (Refusal badSetup)) t x ≡ standing s b l (numbersOk s t (x .rows) (x .buffers))
+unfolding standingIn
+standing-by s t x true true = refl
+standing-by s t x true false = refl
+standing-by s t x false l = refl
+
+standing-table : (g : Setup) (t : State) (x : Lent)
+    → standingOf g t x
+    ≡ standing (withDefaults g) (inRange (withDefaults g)) (lengthsOk (withDefaults g) x) (numbersOk (withDefaults g) t (x .rows) (x .buffers))
+standing-table g t x =
+    let s : Setup = withDefaults g in
+    ap (λ (r : Standing). standingIn r t x) (exact-by s x (inRange s)) ∙ standing-by s t x (inRange s) (lengthsOk s x)
+
+------------------------------------------------------------------------
+-- A cycle
 
 within-address : (s : Setup) (op : Operation) → addressOk s op ≡ within s op
 within-address s Idle = refl
@@ -34,48 +71,56 @@ within-address s (Read a) = refl
 within-address s (Write a w) = refl
 
 module _ (s : Setup) (t : State) (op : Operation) (x : Lent) where
-  abbrev refusal : Bool → Bool → Bool → Bool → ℕ
-  refusal l n m a = pick l (pick n (pick m stopped (pick a done badAddress)) badState) badLength
+  abbrev refusal : Bool → Bool → ℕ
+  refusal m a = pick m stopped (pick a done badAddress)
 
-  abbrev table : Bool → Bool → Bool → Bool → Cycled × Lent
-  table l n m a =
-      pick l (pick n (pick m (refused stopped t x) (pick a (passed s t op x) (refused badAddress t x))) (refused badState t x)) (refused badLength t x)
+  abbrev table : Bool → Bool → Cycled × Lent
+  table m a = pick m (refused stopped t x) (pick a (passed s t op x) (refused badAddress t x))
 
-  turn-by : (l n m a : Bool) → pick (eqb (refusal l n m a) done) (passed s t op x) (refused (refusal l n m a) t x) ≡ table l n m a
-  turn-by true true false true = refl
-  turn-by true true false false = refl
-  turn-by true true true a = refl
-  turn-by true false m a = refl
-  turn-by false n m a = refl
+  step-by : (m a : Bool) → pick (eqb (refusal m a) done) (passed s t op x) (refused (refusal m a) t x) ≡ table m a
+  step-by false true = refl
+  step-by false false = refl
+  step-by true a = refl
 
-  turn-table : turnOf s t op x ≡ table (lengthsOk s x) (numbersOk s t (x .rows) (x .buffers)) (t .stopped) (within s op)
-  unfolding turnOf refusalOf
-  turn-table =
-      turn-by (lengthsOk s x) (numbersOk s t (x .rows) (x .buffers)) (t .stopped) (addressOk s op)
-      ∙ ap (table (lengthsOk s x) (numbersOk s t (x .rows) (x .buffers)) (t .stopped)) (within-address s op)
+  step-table : stepOf s t op x ≡ table (t .stopped) (within s op)
+  unfolding stepOf offeredOf
+  step-table = step-by (t .stopped) (addressOk s op) ∙ ap (table (t .stopped)) (within-address s op)
 
-  cycle-by : (b : Bool) → cycleIn (pick b (InRange s) Refused) t op x ≡ pick b (turnOf s t op x) (refused badSetup t x)
+  cycle-by : (b l n : Bool)
+      → cycleIn (standing s b l n) t op x
+      ≡ pick b (pick l (pick n (table (t .stopped) (within s op)) (refused badState t x)) (refused badLength t x)) (refused badSetup t x)
   unfolding cycleIn
-  cycle-by true = refl
-  cycle-by false = refl
+  cycle-by true true true = step-table
+  cycle-by true true false = refl
+  cycle-by true false n = refl
+  cycle-by false l n = refl
 
 pub refuses-in-order : RefusesInOrder
 refuses-in-order g t op x =
-    cycle-by (withDefaults g) t op x (inRange (withDefaults g))
-    ∙ ap (λ (w : Cycled × Lent). pick (inRange (withDefaults g)) w (refused badSetup t x)) (turn-table (withDefaults g) t op x)
+    let s : Setup = withDefaults g in
+    ap (λ (r : Standing). cycleIn r t op x) (standing-table g t x)
+    ∙ cycle-by s t op x (inRange s) (lengthsOk s x) (numbersOk s t (x .rows) (x .buffers))
 
-question-by : (s : Setup) (t : State) (b : ℕ) (x : Lent) (c : Bool)
-    → waitingIn (pick c (InRange s) Refused) t b x
-    ≡ pick c
-    (pick (lengthsOk s x)
-    (pick (numbersOk s t (x .rows) (x .buffers))
-    (pick (ltb b (banksOf s)) (told done (countOf (x .buffers .heads) b)) (told badAddress 0))
+------------------------------------------------------------------------
+-- A question
+
+waiting-by : (s : Setup) (bank : ℕ) (x : Lent) (b l n : Bool)
+    → waitingIn (standing s b l n) bank x
+    ≡ pick b
+    (pick l
+    (pick n
+    (pick (ltb bank (banksOf s)) (told done (countOf (x .buffers .heads) bank)) (told badAddress 0))
     (told badState 0))
     (told badLength 0))
     (told badSetup 0)
-unfolding waitingIn questionOf
-question-by s t b x true = refl
-question-by s t b x false = refl
+unfolding waitingIn tellOf
+waiting-by s bank x true true true = refl
+waiting-by s bank x true true false = refl
+waiting-by s bank x true false n = refl
+waiting-by s bank x false l n = refl
 
 pub tells-in-order : TellsInOrder
-tells-in-order g t b x = question-by (withDefaults g) t b x (inRange (withDefaults g))
+tells-in-order g t b x =
+    let s : Setup = withDefaults g in
+    ap (λ (r : Standing). waitingIn r b x) (standing-table g t x)
+    ∙ waiting-by s b x (inRange s) (lengthsOk s x) (numbersOk s t (x .rows) (x .buffers))

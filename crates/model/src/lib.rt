@@ -2,6 +2,7 @@
 use map::Address;
 use map::Cell;
 use port::Reply;
+use setup::Setup;
 
 // The state goes in and comes back by value; everything else is lent.
 pub struct State {
@@ -76,6 +77,12 @@ pub enum Placing {
 pub struct Plan {
     pub row: Row,
     pub placing: Placing,
+}
+
+// What 1, 2 and 3 look at stands, under the setup with its defaults in; or the first of them that refuses.
+pub enum Standing {
+    Sound(Setup),
+    Refusal(u32),
 }
 
 // What a cycle returns.

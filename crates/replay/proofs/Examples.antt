@@ -3,7 +3,7 @@ use mathlib.Core.Path.{refl}
 use Rattle.map.specs.Map.{bankOf, cellOf}
 use Rattle.model.specs.Cycle.{filledBelow, carried, servedBank, servedBelow, scan, placed, retired, arrived, afterService, passed}
 use Rattle.model.specs.Range.{rowsOk, entriesOk, buffersOk}
-use Rattle.model.specs.Calls.{refusalOf, turnOf, cycleIn}
+use Rattle.model.specs.Calls.{exactIn, standingIn, offeredOf, stepOf, cycleIn}
 use Rattle.bytes.specs.Bytes.{numberAt, bytesOf}
 use Rattle.records.specs.Records.{operationFrom, operationOf, operationBytes}
 use Rattle.setuprecord.specs.SetupRecord.{setupFields, allowed, setupOf, setupBytes}
@@ -14,5 +14,5 @@ use Rattle.replay.specs.Replay.{openingFor, setupLine, withRecord, liste
 use Rattle.replay.specs.Examples.{RunsAsShown}
 
 pub runs-as-shown : RunsAsShown
-unfolding cellOf bankOf filledBelow carried servedBank servedBelow scan placed retired arrived afterService passed rowsOk entriesOk buffersOk refusalOf turnOf cycleIn numberAt bytesOf operationFrom operationOf operationBytes setupFields allowed setupOf setupBytes digitsIn decimal deliveryText field lineOf openingFor setupLine withRecord listedBelow printedIn bytesFor
+unfolding cellOf bankOf filledBelow carried servedBank servedBelow scan placed retired arrived afterService passed rowsOk entriesOk buffersOk exactIn standingIn offeredOf stepOf cycleIn numberAt bytesOf operationFrom operationOf operationBytes setupFields allowed setupOf setupBytes digitsIn decimal deliveryText field lineOf openingFor setupLine withRecord listedBelow printedIn bytesFor
 runs-as-shown = refl

@@ -19,7 +19,7 @@ use Rattle.model.specs.declared.State.{State}
 use Rattle.model.specs.declared.Started.{Started}
 use Rattle.model.specs.Lent.{Lent, lent}
 use Rattle.model.specs.Range.{lengthsOk}
-use Rattle.model.specs.Calls.{started, freshState, freshIn, freshOf, startOf}
+use Rattle.model.specs.Calls.{exactIn, started, freshState, freshIn, freshOf}
 use Rattle.setuprecord.specs.SetupRecord.{setupOf}
 use Rattle.setuprecord.proofs.Choice.{first}
 use Rattle.setuprecord.specs.declared.SetupRecord.{SetupRecord}
@@ -190,7 +190,7 @@ zeros-exact s =
 
 pub begins : (s : Setup) (t : State) (x y : Lent) (r : Started) → Opened s → x ≡ zerosFor s → (r, y) ≡ freshOf s t x
     → (record { state = r .state; number = 0; on = true; end = 0 }, y) ≡ begun s
-unfolding freshIn startOf
+unfolding exactIn freshIn
 begins s t x y r o z e =
     let f : freshOf s t (zerosFor s) ≡ (started done freshState, zerosFor s) = rw (o .checked, zeros-exact s) in
     ap (λ (w : Started × Lent). (record { state = w .0 .state; number = 0; on = true; end = 0 }, w .1)) (e ∙ ap (λ (v : Lent). freshOf s t v) z ∙ f)

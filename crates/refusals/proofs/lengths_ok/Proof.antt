@@ -1,4 +1,4 @@
--- `controller::lengths_ok` meets its contract: the code makes the definition's tests. Assumes nothing.
+-- `refusals::lengths_ok` meets its contract: the code makes the definition's tests. Assumes nothing.
 use mathlib.Core.Bool.{_&&_}
 use mathlib.Core.List.{List}
 use mathlib.Core.Path.{_≡_, ap}
@@ -10,8 +10,8 @@ use Rattle.setup.specs.declared.Setup.{Setup}
 use Rattle.model.specs.declared.Lengths.{Lengths}
 use Rattle.model.specs.Lent.{lent}
 use Rattle.model.specs.Range.{lengthsOf, lengthsOk}
-use Rattle.controller.proofs.lengths_ok.Statement.{statement}
-use Rattle.controller.proofs.lengths_ok.Tie as tie
+use Rattle.refusals.proofs.lengths_ok.Statement.{statement}
+use Rattle.refusals.proofs.lengths_ok.Tie as tie
 
 tests : (s : Setup) (memory rows entries heads : List ℕ) (due : Lengths) → due ≡ lengthsOf s
     → eqb (length memory) (due .memory) && eqb (length rows) (due .rows) && eqb (length entries) (due .entries) && eqb (length heads) (due .heads)

@@ -1,13 +1,14 @@
--- `controller::lengths` meets its contract: no length reaches 2^21. Assumes nothing.
+-- `refusals::lengths` meets its contract: no length reaches 2^21. Assumes nothing.
 use borrow.Author.Needs.{needs}
 use Prim.Native.Nat.{ℕ, _*_, _^_, _<_}
 use mathlib.Core.Path.{_≡_}
 use native.Mathlib.Omega.{arith}
 use Rattle.setup.specs.declared.Setup.{Setup}
-use Rattle.setup.specs.Setup.{Ranges, banksOf}
+use Rattle.setup.specs.Setup.{Ranges, wordsOf, banksOf}
+use Rattle.model.specs.Range.{lengthsOf}
 use Rattle.setup.proofs.Ranges.{banks-most, places-most}
-use Rattle.controller.proofs.lengths.Statement.{statement}
-use Rattle.controller.proofs.lengths.Tie as tie
+use Rattle.refusals.proofs.lengths.Statement.{statement}
+use Rattle.refusals.proofs.lengths.Tie as tie
 
 module _ (s : Setup) (b : ℕ) (g : Ranges s) (e : b ≡ banksOf s) where
   places-fit : b * s .k < 2 ^ 32
@@ -18,6 +19,10 @@ module _ (s : Setup) (b : ℕ) (g : Ranges s) (e : b ≡ banksOf s) where
 
   heads-fit : 2 * b < 2 ^ 32
   heads-fit = let l = banks-most s (g .sizes) in omega arith
+
+sized : (s : Setup) (n b : ℕ) → n ≡ wordsOf s → b ≡ banksOf s
+    → record { memory = n; rows = 4 * s .c; entries = 4 * (b * s .k); heads = 2 * b } ≡ lengthsOf s
+sized s n b en eb = rw (en, eb)
 
 banks-requires : tie.Need-banks-requires
 banks-requires c κs = search needs
@@ -44,7 +49,7 @@ mul-t9 : tie.Need-mul-t9
 mul-t9 c = record { fits = search (heads-fit) }
 
 returns : tie.Need-returns
-returns c = cc
+returns c = search (sized)
 
 pub lengths-spec : {M : Type 1} → statement M
 lengths-spec =
