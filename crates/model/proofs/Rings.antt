@@ -10,7 +10,7 @@ use lib.ListN.{length, getD, set, length-set}
 use lib.Seq.{getD-set-same, getD-set-other}
 use borrow.Author.Tests.{lt-ltb, le-ltb}
 use Rattle.setup.specs.Choice.{pick}
-use Rattle.model.specs.Lent.{oldestOf, countOf, putHead, onward, back}
+use Rattle.model.specs.Lent.{headNumbers, oldestOf, countOf, putHead, onward, back}
 use Rattle.model.proofs.Tests.{below-or-not, same-or-not}
 
 ------------------------------------------------------------------------
@@ -95,20 +95,20 @@ pub length-put-head : (l : List ℕ) (b oldest count : ℕ) → length (putHead 
 length-put-head l b oldest count = simp length-set
 
 module _ (l : List ℕ) (b oldest count : ℕ) where
-  pub oldest-put-same : 2 * b + 1 < length l → oldestOf (putHead l b oldest count) b ≡ oldest
+  pub oldest-put-same : headNumbers * b + 1 < length l → oldestOf (putHead l b oldest count) b ≡ oldest
   oldest-put-same h =
-      getD-set-other (set l (2 * b) oldest) (2 * b + 1) (2 * b) count 0 (λ e. omega arith)
-      ∙ getD-set-same l (2 * b) oldest 0 (omega arith)
+      getD-set-other (set l (headNumbers * b) oldest) (headNumbers * b + 1) (headNumbers * b) count 0 (λ e. omega arith)
+      ∙ getD-set-same l (headNumbers * b) oldest 0 (omega arith)
 
-  pub count-put-same : 2 * b + 1 < length l → countOf (putHead l b oldest count) b ≡ count
-  count-put-same h = getD-set-same (set l (2 * b) oldest) (2 * b + 1) count 0 (simp length-set h)
+  pub count-put-same : headNumbers * b + 1 < length l → countOf (putHead l b oldest count) b ≡ count
+  count-put-same h = getD-set-same (set l (headNumbers * b) oldest) (headNumbers * b + 1) count 0 (simp length-set h)
 
-  put-head-outside : (q : ℕ) → (q ≡ 2 * b → ⊥) → (q ≡ 2 * b + 1 → ⊥) → getD (putHead l b oldest count) q 0 ≡ getD l q 0
+  put-head-outside : (q : ℕ) → (q ≡ headNumbers * b → ⊥) → (q ≡ headNumbers * b + 1 → ⊥) → getD (putHead l b oldest count) q 0 ≡ getD l q 0
   put-head-outside q m n =
-      getD-set-other (set l (2 * b) oldest) (2 * b + 1) q count 0 n ∙ getD-set-other l (2 * b) q oldest 0 m
+      getD-set-other (set l (headNumbers * b) oldest) (headNumbers * b + 1) q count 0 n ∙ getD-set-other l (headNumbers * b) q oldest 0 m
 
   pub oldest-put-other : (j : ℕ) → (j ≡ b → ⊥) → oldestOf (putHead l b oldest count) j ≡ oldestOf l j
-  oldest-put-other j n = put-head-outside (2 * j) (λ e. n (omega arith)) (λ e. omega arith)
+  oldest-put-other j n = put-head-outside (headNumbers * j) (λ e. n (omega arith)) (λ e. omega arith)
 
   pub count-put-other : (j : ℕ) → (j ≡ b → ⊥) → countOf (putHead l b oldest count) j ≡ countOf l j
-  count-put-other j n = put-head-outside (2 * j + 1) (λ e. omega arith) (λ e. n (omega arith))
+  count-put-other j n = put-head-outside (headNumbers * j + 1) (λ e. omega arith) (λ e. n (omega arith))
