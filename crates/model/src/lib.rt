@@ -64,9 +64,7 @@ pub struct Entry {
 impl Entry {
     pub const NUMBERS: usize = 4;
 
-    // Which of them is which.
-    pub const KIND: usize = 0;
-
+    // The kind comes first, then the others.
     pub const ROW: usize = 1;
 
     pub const CELL: usize = 2;
@@ -88,9 +86,7 @@ pub struct Head {
 impl Head {
     pub const NUMBERS: usize = 2;
 
-    // Which of them is which.
-    pub const OLDEST: usize = 0;
-
+    // The oldest place comes first, then the count.
     pub const COUNT: usize = 1;
 }
 
