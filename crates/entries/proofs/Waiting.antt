@@ -21,7 +21,7 @@ use lib.Bits.{bitOr}
 use Rattle.flat.proofs.Flat.{le-or-l, le-or-r}
 use Rattle.lanes.proofs.Lanes.{pairs-each, pairs-every, fours-each}
 use Rattle.model.specs.Lent.{Buffers, entryNumbers, writeEntry, buffersIn, entryWith, entryAt, oldestOf, countOf, onward}
-use Rattle.model.specs.Range.{lengthsOf, entryOk, waitingEntry, entriesOk, headOk, bufferOk, buffersOk, Room, HeadsOk}
+use Rattle.model.specs.Range.{lengthsOf, entryOk, waitingEntry, entriesOk, bufferOk, buffersOk, Room, HeadsOk}
 use Rattle.model.specs.declared.Entry.{Entry}
 use Rattle.flat.proofs.Below.{said-no, below-more, below-out, below-all}
 use lib.ListN.{length}

@@ -15,7 +15,7 @@ use Rattle.setup.specs.declared.Setup.{Setup}
 use Rattle.setup.proofs.Ranges.{and-l}
 use Rattle.model.specs.declared.Row.{Row}
 use Rattle.model.specs.declared.Found.{Found}
-use Rattle.model.specs.declared.Found.the-variants.{At, Nothing}
+use Rattle.model.specs.declared.Found.the-variants.{At}
 use Rattle.model.specs.Lent.{rowNumbers, waitingKind, rowAt, putRow, back}
 use Rattle.model.specs.Range.{rowOk, GoodRows, Within}
 use Rattle.model.specs.Cycle.{lacks, withWord, filledRow, filledBelow, scan}
