@@ -14,11 +14,15 @@ pub fn row_at(rows: &[u32], c: usize, i: usize) -> Row
     requires { ⌜ (length (now rows) ≡ rowNumbers * c) × (i < c) ⌝ }
     ensures { λ r. ⌜ r ≡ rowAt c (now (rows .entry)) i ⌝ }
 {
+    let kind = rows[Row::KINDS * c + i];
+    let address = Address(rows[Row::ADDRESSES * c + i]);
+    let link = rows[Row::LINKS * c + i];
+    let word = rows[Row::WORDS * c + i];
     Row {
-        kind: rows[Row::KINDS * c + i],
-        address: Address(rows[Row::ADDRESSES * c + i]),
-        word: rows[Row::WORDS * c + i],
-        link: rows[Row::LINKS * c + i],
+        kind,
+        address,
+        word,
+        link,
     }
 }
 

@@ -1,12 +1,16 @@
 -- `entries::next_waiting` meets its contract. The loop's invariant: what is to be found is found from bank i on. Assumes nothing.
 use borrow.Author.Needs.{needs}
-use Prim.Native.Nat.{_≤_, _-_}
-use mathlib.Core.Path.{_≡_, refl}
+use Prim.Native.Nat.{ℕ, _≤_, _-_}
+use mathlib.Core.List.{List}
+use mathlib.Core.Path.{_≡_, refl, _∙_}
 use native.Mathlib.Omega.{arith}
 use Rattle.entries.specs.Entries.{nextWaiting}
 use Rattle.entries.proofs.Waiting.{next-four}
 use Rattle.entries.proofs.next_waiting.Statement.{statement}
 use Rattle.entries.proofs.next_waiting.Tie as tie
+
+found : (heads : List ℕ) (i n r x : ℕ) → r ≡ nextWaiting heads i n → nextWaiting heads i n ≡ x → r ≡ x
+found heads i n r x p q = p ∙ q
 
 abbrev Inv-loop : tie.InvT-loop
 Inv-loop heads b banks i₀ i = (b ≤ i) × (i ≤ banks) × (nextWaiting heads i (banks - i) ≡ nextWaiting heads b (banks - b))
@@ -36,13 +40,13 @@ next-of-few-requires : tie.Need-next-of-few-requires Inv-loop μ-loop
 next-of-few-requires c κs = search needs
 
 returns : tie.Need-returns Inv-loop μ-loop
-returns c = (cc, omega arith, omega arith)
+returns c = (search found, omega arith, omega arith)
 
 next-of-few-requires-2 : tie.Need-next-of-few-requires-2 Inv-loop μ-loop
 next-of-few-requires-2 c κs = search needs
 
 returns-2 : tie.Need-returns-2 Inv-loop μ-loop
-returns-2 c = (cc, omega arith, omega arith)
+returns-2 c = (search found, omega arith, omega arith)
 
 pub next-waiting-spec : {M : Type 1} → statement M
 next-waiting-spec =
