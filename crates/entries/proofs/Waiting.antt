@@ -3,22 +3,19 @@ use Prim.Native.Nat.{ℕ, zero, suc, _+_, _-_, _*_, _/_, _≤_, _<_}
 use mathlib.Core.Bool.{Bool, true, false, not, _&&_, _||_}
 use mathlib.Core.Logic.{⊎-elim}
 use mathlib.Core.List.{List}
-use mathlib.Core.Path.{_≡_, refl, sym, ap, subst, _∙_}
-use native.Mathlib.Nat.{eq-or-lt-of-le}
+use mathlib.Core.Path.{_≡_, refl, sym, ap, _∙_}
 use native.Mathlib.Omega.{arith}
 use lib.Dec.{eqb}
-use borrow.Author.Tests.{le-leb, lt-leb, lt-ltb, le-ltb, eq-eqb, ne-eqb, eqb-true}
+use borrow.Author.Tests.{le-leb, lt-leb, lt-ltb, le-ltb}
 use borrow.Rule.Slice.PartMut.{midOf}
 use Rattle.setup.specs.Setup.{Ranges, wordsOf, banksOf}
 use Rattle.setup.specs.declared.Setup.{Setup}
 use Rattle.model.proofs.Rings.{onward-either, onward-none, onward-below, part-within}
 use Rattle.model.proofs.Range.{head-ok, head-oldest, head-count, buffer-ok, buffer-head, buffers-each}
 use Rattle.model.proofs.Range as range
-use Rattle.model.proofs.Tests.{pick-either, below-or-not}
+use Rattle.model.proofs.Tests.{below-or-not}
 use Rattle.lanes.specs.Lanes.{pairsBelow, pairsTold, foursBelow}
 use Rattle.lanes.specs.declared.Told.{Told}
-use lib.Bits.{bitOr}
-use Rattle.flat.proofs.Flat.{le-or-l, le-or-r}
 use Rattle.lanes.proofs.Lanes.{pairs-each, pairs-every, fours-each}
 use Rattle.model.specs.Lent.{Buffers, entryNumbers, writeEntry, buffersIn, entryWith, entryAt, oldestOf, countOf, onward}
 use Rattle.model.specs.Range.{lengthsOf, entryOk, waitingEntry, entriesOk, bufferOk, buffersOk, Room, HeadsOk}
@@ -27,7 +24,9 @@ use Rattle.flat.proofs.Below.{said-no, below-more, below-out, below-all}
 use lib.ListN.{length}
 use Rattle.setup.proofs.Ranges.{banks-least}
 use Rattle.buffers.specs.Bank.{Buffer}
-use Rattle.entries.specs.Entries.{partOk, Quiet, nextWaiting}
+use Rattle.entries.specs.Entries.{partOk}
+use Rattle.heads.specs.Heads.{Quiet, nextWaiting}
+use Rattle.heads.proofs.Quiet.{found-quiet}
 use Rattle.buffers.proofs.Parts.{four-part}
 use Rattle.buffers.proofs.Banks.{size, room-buffer}
 
@@ -67,81 +66,6 @@ module _ (n c k oldest : ℕ) (part : List ℕ) where
   pub part-all : (i m : ℕ) → m ≤ i → i ≤ m → partOk n c k oldest part i ≡ true → true ≡ partOk n c k oldest part m
   unfolding partOk
   part-all = below-all (λ (j : ℕ). entryOk n c (entryAt part (onward k oldest j))) (partOk n c k oldest part) (λ j. refl)
-
-------------------------------------------------------------------------
--- Banks where nothing waits
-
-next-quiet : (heads : List ℕ) (b n : ℕ) → Quiet heads b (nextWaiting heads b n)
-unfolding nextWaiting
-next-quiet heads b zero = λ i h l. absurd (omega arith)
-next-quiet heads b (suc n) =
-    pick-either (Quiet heads b) (eqb (countOf heads b) 0)
-    (λ e i h l. ⊎-elim
-    (λ (q : b ≡ i). subst (λ (z : ℕ). countOf heads z ≡ 0) q (eqb-true (countOf heads b) 0 e))
-    (λ (q : b < i). next-quiet heads (suc b) n i q l)
-    (eq-or-lt-of-le h))
-    (λ e i h l. absurd (omega arith))
-
--- up to what was found
-pub found-quiet : (heads : List ℕ) (b n r : ℕ) → r ≡ nextWaiting heads b n → Quiet heads b r
-found-quiet heads b n r e = rw e (next-quiet heads b n)
-
--- from bank i on, of the banks below k: m is its count, and r what is to be found
-module _ (heads : List ℕ) (i k r : ℕ) (h : nextWaiting heads i (k - i) ≡ r) where
-  pub next-here : (m : ℕ) → i < k → m ≡ countOf heads i → (m ≡ 0 → ⊥) → i ≡ r
-  unfolding nextWaiting
-  next-here m l e n =
-      let s : k - i ≡ suc (k - i - 1) = omega arith in
-      let z : eqb (countOf heads i) 0 ≡ false = ne-eqb (countOf heads i) 0 (λ q. n (e ∙ q)) in
-      let y : nextWaiting heads i (suc (k - i - 1)) ≡ i = rw z in
-      sym y ∙ ap (nextWaiting heads i) (sym s) ∙ h
-
-  pub next-on : (m : ℕ) → i < k → m ≡ countOf heads i → m ≡ 0 → nextWaiting heads (i + 1) (k - (i + 1)) ≡ r
-  unfolding nextWaiting
-  next-on m l e n =
-      let s : k - i ≡ suc (k - (i + 1)) = omega arith in
-      let z : eqb (countOf heads i) 0 ≡ true = eq-eqb (countOf heads i) 0 (sym e ∙ n) in
-      let y : nextWaiting heads i (suc (k - (i + 1))) ≡ nextWaiting heads (suc i) (k - (i + 1)) = rw z in
-      let d : i + 1 ≡ suc i = omega arith in
-      ap (λ (z : ℕ). nextWaiting heads z (k - (i + 1))) d ∙ sym y ∙ ap (nextWaiting heads i) (sym s) ∙ h
-
-  pub next-end : k ≤ i → i ≡ r
-  unfolding nextWaiting
-  next-end l = let s : k - i ≡ 0 = omega arith in ap (nextWaiting heads i) (sym s) ∙ h
-
--- four banks more at which nothing waits; y says so
-pub next-four : (heads : List ℕ) (i k r : ℕ) (y : Bool) → nextWaiting heads i (k - i) ≡ r → 4 ≤ k - i → (y ≡ true → Quiet heads i (i + 4)) → y ≡ true
-    → nextWaiting heads (i + 4) (k - (i + 4)) ≡ r
-next-four heads i k r y h l q e =
-    let z : Quiet heads i (i + 4) = q e in
-    let a = next-on heads i k r h (countOf heads i) (omega arith) refl (z i (omega arith) (omega arith)) in
-    let b = next-on heads (i + 1) k r a (countOf heads (i + 1)) (omega arith) refl (z (i + 1) (omega arith) (omega arith)) in
-    let c = next-on heads (i + 1 + 1) k r b (countOf heads (i + 1 + 1)) (omega arith) refl (z (i + 1 + 1) (omega arith) (omega arith)) in
-    let d = next-on heads (i + 1 + 1 + 1) k r c (countOf heads (i + 1 + 1 + 1)) (omega arith) refl (z (i + 1 + 1 + 1) (omega arith) (omega arith)) in
-    let n : i + 1 + 1 + 1 + 1 ≡ i + 4 = omega arith in
-    subst (λ (j : ℕ). nextWaiting heads j (k - j) ≡ r) n d
-
--- four counts whose bits put together are none
-or-none : (a b : ℕ) → bitOr a b ≡ 0 → (a ≡ 0) × (b ≡ 0)
-or-none a b h = let p = le-or-l a b in let q = le-or-r a b in (omega arith, omega arith)
-
-pub quiet-four : (heads : List ℕ) (b w x y z : ℕ) → w ≡ countOf heads b → x ≡ countOf heads (b + 1) → y ≡ countOf heads (b + 2) → z ≡ countOf heads (b + 3)
-    → eqb (bitOr (bitOr (bitOr w x) y) z) 0 ≡ true → Quiet heads b (b + 4)
-quiet-four heads b w x y z ew ex ey ez h i l m =
-    let p = or-none (bitOr (bitOr w x) y) z (eqb-true (bitOr (bitOr (bitOr w x) y) z) 0 h) in
-    let q = or-none (bitOr w x) y (p .0) in
-    let r = or-none w x (q .0) in
-    by (i - b) (omega arith) (omega arith) (sym ew ∙ r .0) (sym ex ∙ r .1) (sym ey ∙ q .1) (sym ez ∙ p .1)
-  where
-    at : (k : ℕ) → i ≡ k → countOf heads k ≡ 0 → countOf heads i ≡ 0
-    at k e g = rw e g
-
-    by : (k : ℕ) → k < 4 → i ≡ b + k → countOf heads b ≡ 0 → countOf heads (b + 1) ≡ 0 → countOf heads (b + 2) ≡ 0 → countOf heads (b + 3) ≡ 0 → countOf heads i ≡ 0
-    by zero n e f₀ f₁ f₂ f₃ = at b (omega arith) f₀
-    by (suc zero) n e f₀ f₁ f₂ f₃ = at (b + 1) (omega arith) f₁
-    by (suc (suc zero)) n e f₀ f₁ f₂ f₃ = at (b + 2) (omega arith) f₂
-    by (suc (suc (suc zero))) n e f₀ f₁ f₂ f₃ = at (b + 3) (omega arith) f₃
-    by (suc (suc (suc (suc k)))) n e f₀ f₁ f₂ f₃ = absurd (omega arith)
 
 ------------------------------------------------------------------------
 -- The buffers of the k banks, from the first on, where every head is in range. t says whether what waits at bank b is

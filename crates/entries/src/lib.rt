@@ -8,8 +8,9 @@ ghost use Rattle.setup.specs.Setup.{Ranges, wordsOf, banksOf};
 ghost use Rattle.model.specs.Lent.{entryNumbers, headNumbers, buffersIn, entryAt, countOf};
 ghost use Rattle.model.specs.Range.{entryOk, entriesOk, buffersOk, Room, HeadsOk};
 ghost use Rattle.buffers.specs.Bank.{Buffer};
-ghost use Rattle.entries.specs.Entries.{partOk, Quiet, nextWaiting};
+ghost use Rattle.entries.specs.Entries.{partOk};
 use heads::count_at;
+use heads::next_waiting;
 use heads::oldest_at;
 use model::Entry;
 use rings::next;
@@ -63,46 +64,6 @@ fn waiting_ok(s: Setup, n: u32, b: usize, entries: &[u32], heads: &[u32]) -> boo
     let oldest = oldest_at(heads, b);
     let count = count_at(heads, b);
     part_ok(&entries[from..to], k, oldest, count, n, s.c as u32)
-}
-
-// Nothing waits at four banks from b on: their counts put together are 0.
-fn four_quiet(heads: &[u32], b: usize) -> bool
-    requires { ⌜ headNumbers * (b + 4) ≤ length (now heads) ⌝ }
-    ensures { λ yes. ⌜ (yes ≡ true → Quiet (now (heads .entry)) b (b + 4)) ⌝ }
-{
-    (count_at(heads, b) | count_at(heads, b + 1) | count_at(heads, b + 2) | count_at(heads, b + 3))
-        == 0
-}
-
-// The first bank from b on where something waits, or the number of banks: one by one.
-fn next_of_few(heads: &[u32], b: usize, banks: usize) -> usize
-    requires { ⌜ (length (now heads) ≡ headNumbers * banks) × (b ≤ banks) ⌝ }
-    ensures { λ r. ⌜ (r ≡ nextWaiting (now (heads .entry)) b (banks - b)) × (b ≤ r) × (r ≤ banks) ⌝ }
-{
-    let mut i = b;
-    while i < banks {
-        if count_at(heads, i) != 0 {
-            return i;
-        }
-        i += 1;
-    }
-    i
-}
-
-// The same by fours, as long as nothing waits there: at most banks nothing does as a rule.
-pub fn next_waiting(heads: &[u32], b: usize, banks: usize) -> usize
-    requires { ⌜ (length (now heads) ≡ headNumbers * banks) × (b ≤ banks) ⌝ }
-    ensures { λ r. ⌜ (r ≡ nextWaiting (now (heads .entry)) b (banks - b)) × (b ≤ r) × (r ≤ banks) ⌝ }
-{
-    let mut i = b;
-    while 4 <= banks - i {
-        if four_quiet(heads, i) {
-            i += 4;
-        } else {
-            return next_of_few(heads, i, banks);
-        }
-    }
-    next_of_few(heads, i, banks)
 }
 
 // Of each of the B buffers, whose heads are in range, the entries that wait; of n words.

@@ -1,7 +1,10 @@
--- What a call on the head of one bank's buffer asks.
-use Prim.Native.Nat.{ℕ, _+_, _*_, _≤_, _<_}
+-- What a call on the head of one bank's buffer asks, and where something waits.
+use Prim.Native.Nat.{ℕ, zero, suc, _+_, _*_, _≤_, _<_}
 use mathlib.Core.List.{List}
+use mathlib.Core.Path.{_≡_}
+use lib.Dec.{eqb}
 use lib.ListN.{length}
+use Rattle.setup.specs.Choice.{pick}
 use Rattle.setup.specs.declared.Setup.{Setup}
 use Rattle.setup.specs.Setup.{Sizes}
 use Rattle.model.specs.Lent.{headNumbers, oldestOf, countOf}
@@ -16,3 +19,12 @@ pub record GoodHead (s : Setup) (b : ℕ) (heads : List ℕ) : Type 0 where
   pub head-there : HeadThere b heads
   pub oldest-below : oldestOf heads b < s .k
   pub count-most : countOf heads b ≤ s .k
+
+-- nothing waits at the banks from one up to another
+abbrev pub Quiet : List ℕ → ℕ → ℕ → Type 0
+Quiet heads from to = (b : ℕ) → from ≤ b → b < to → countOf heads b ≡ 0
+
+-- the first of the n banks from b on where something waits, or the one after them
+unfoldable pub nextWaiting : List ℕ → ℕ → ℕ → ℕ
+nextWaiting heads b zero = b
+nextWaiting heads b (suc n) = pick (eqb (countOf heads b) 0) (nextWaiting heads (suc b) n) b

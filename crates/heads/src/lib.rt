@@ -1,9 +1,11 @@
 // The heads of the request buffers: of each bank's buffer the place of the oldest entry, and the count.
 ghost use mathlib.Core.Path.{_≡_};
-ghost use Prim.Native.Nat.{_<_};
-ghost use Rattle.model.specs.Lent.{oldestOf, countOf, putHead};
+ghost use mathlib.Core.Bool.{true};
+ghost use Prim.Native.Nat.{_+_, _-_, _*_, _≤_, _<_};
+ghost use lib.ListN.{length};
+ghost use Rattle.model.specs.Lent.{headNumbers, oldestOf, countOf, putHead};
 ghost use Rattle.model.specs.Cycle.{popped};
-ghost use Rattle.heads.specs.Heads.{HeadThere, GoodHead};
+ghost use Rattle.heads.specs.Heads.{HeadThere, GoodHead, Quiet, nextWaiting};
 use model::Head;
 use rings::onward;
 use setup::Setup;
@@ -43,4 +45,44 @@ pub fn pop(s: Setup, b: usize, heads: &mut [u32])
     let oldest = onward(k, oldest_at(heads, b) as usize, 1) as u32;
     let count = count_at(heads, b) - 1;
     put_head(heads, b, Head { oldest, count });
+}
+
+// Nothing waits at four banks from b on: their counts put together are 0.
+fn four_quiet(heads: &[u32], b: usize) -> bool
+    requires { ⌜ headNumbers * (b + 4) ≤ length (now heads) ⌝ }
+    ensures { λ yes. ⌜ (yes ≡ true → Quiet (now (heads .entry)) b (b + 4)) ⌝ }
+{
+    (count_at(heads, b) | count_at(heads, b + 1) | count_at(heads, b + 2) | count_at(heads, b + 3))
+        == 0
+}
+
+// The first bank from b on where something waits, or the number of banks: one by one.
+fn next_of_few(heads: &[u32], b: usize, banks: usize) -> usize
+    requires { ⌜ (length (now heads) ≡ headNumbers * banks) × (b ≤ banks) ⌝ }
+    ensures { λ r. ⌜ (r ≡ nextWaiting (now (heads .entry)) b (banks - b)) × (b ≤ r) × (r ≤ banks) ⌝ }
+{
+    let mut i = b;
+    while i < banks {
+        if count_at(heads, i) != 0 {
+            return i;
+        }
+        i += 1;
+    }
+    i
+}
+
+// The same by fours, as long as nothing waits there: at most banks nothing does as a rule.
+pub fn next_waiting(heads: &[u32], b: usize, banks: usize) -> usize
+    requires { ⌜ (length (now heads) ≡ headNumbers * banks) × (b ≤ banks) ⌝ }
+    ensures { λ r. ⌜ (r ≡ nextWaiting (now (heads .entry)) b (banks - b)) × (b ≤ r) × (r ≤ banks) ⌝ }
+{
+    let mut i = b;
+    while 4 <= banks - i {
+        if four_quiet(heads, i) {
+            i += 4;
+        } else {
+            return next_of_few(heads, i, banks);
+        }
+    }
+    next_of_few(heads, i, banks)
 }

@@ -74,9 +74,9 @@ pub fn serve(
     ensures { λ _. ⌜ lent (now (memory .exit)) (now (rows .exit)) (now (entries .entry)) (now (heads .exit)) ≡ served s turn (lent (now (memory .entry)) (now (rows .entry)) (now (entries .entry)) (now (heads .entry))) ⌝ }
 {
     let banks = s.banks() as usize;
-    let mut b = entries::next_waiting(heads, 0, banks);
+    let mut b = heads::next_waiting(heads, 0, banks);
     while b < banks {
         serve_if(s, turn, b, memory, rows, entries, heads);
-        b = entries::next_waiting(heads, b + 1, banks);
+        b = heads::next_waiting(heads, b + 1, banks);
     }
 }

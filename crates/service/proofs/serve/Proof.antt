@@ -11,8 +11,8 @@ use Rattle.model.specs.Lent.{Lent, lent, countOf}
 use Rattle.model.specs.Cycle.{servedIf, servedBelow, served}
 use Rattle.model.proofs.Tests.{pick-good}
 use Rattle.model.proofs.Service.{served-none, below-at-good, below-at-next}
-use Rattle.entries.specs.Entries.{nextWaiting}
-use Rattle.entries.proofs.Waiting.{found-quiet}
+use Rattle.heads.specs.Heads.{nextWaiting}
+use Rattle.heads.proofs.Quiet.{found-quiet}
 use borrow.Author.Needs.{needs}
 use Rattle.service.proofs.serve.Statement.{statement}
 use Rattle.service.proofs.serve.Tie as tie

@@ -1,13 +1,27 @@
--- `entries::next_waiting` meets its contract. The loop's invariant: what is to be found is found from bank i on. Assumes nothing.
+-- `heads::next_waiting` meets its contract. The loop's invariant: what is to be found is found from bank i on. Assumes nothing.
 use borrow.Author.Needs.{needs}
-use Prim.Native.Nat.{ℕ, _≤_, _-_}
+use Prim.Native.Nat.{ℕ, _+_, _-_, _≤_}
+use mathlib.Core.Bool.{Bool, true}
 use mathlib.Core.List.{List}
-use mathlib.Core.Path.{_≡_, refl, _∙_}
+use mathlib.Core.Path.{_≡_, refl, subst, _∙_}
 use native.Mathlib.Omega.{arith}
-use Rattle.entries.specs.Entries.{nextWaiting}
-use Rattle.entries.proofs.Waiting.{next-four}
-use Rattle.entries.proofs.next_waiting.Statement.{statement}
-use Rattle.entries.proofs.next_waiting.Tie as tie
+use Rattle.model.specs.Lent.{countOf}
+use Rattle.heads.specs.Heads.{Quiet, nextWaiting}
+use Rattle.heads.proofs.Quiet.{next-on}
+use Rattle.heads.proofs.next_waiting.Statement.{statement}
+use Rattle.heads.proofs.next_waiting.Tie as tie
+
+-- four banks more at which nothing waits; y says so
+next-four : (heads : List ℕ) (i k r : ℕ) (y : Bool) → nextWaiting heads i (k - i) ≡ r → 4 ≤ k - i → (y ≡ true → Quiet heads i (i + 4)) → y ≡ true
+    → nextWaiting heads (i + 4) (k - (i + 4)) ≡ r
+next-four heads i k r y h l q e =
+    let z : Quiet heads i (i + 4) = q e in
+    let a = next-on heads i k r h (countOf heads i) (omega arith) refl (z i (omega arith) (omega arith)) in
+    let b = next-on heads (i + 1) k r a (countOf heads (i + 1)) (omega arith) refl (z (i + 1) (omega arith) (omega arith)) in
+    let c = next-on heads (i + 1 + 1) k r b (countOf heads (i + 1 + 1)) (omega arith) refl (z (i + 1 + 1) (omega arith) (omega arith)) in
+    let d = next-on heads (i + 1 + 1 + 1) k r c (countOf heads (i + 1 + 1 + 1)) (omega arith) refl (z (i + 1 + 1 + 1) (omega arith) (omega arith)) in
+    let n : i + 1 + 1 + 1 + 1 ≡ i + 4 = omega arith in
+    subst (λ (j : ℕ). nextWaiting heads j (k - j) ≡ r) n d
 
 found : (heads : List ℕ) (i n r x : ℕ) → r ≡ nextWaiting heads i n → nextWaiting heads i n ≡ x → r ≡ x
 found heads i n r x p q = p ∙ q
