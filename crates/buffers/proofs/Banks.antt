@@ -8,76 +8,73 @@ use lib.Dec.{eqb}
 use lib.ListN.{length}
 use borrow.Author.Tests.{eqb-true, eqb-false}
 use borrow.Rule.Slice.PartMut.{midOf, putMid}
-use Rattle.setup.specs.Setup.{mapOf, banksOf}
+use Rattle.setup.specs.Setup.{Sizes, Ranges, mapOf, banksOf}
 use Rattle.setup.specs.declared.Setup.{Setup}
 use Rattle.map.specs.Map.{bankOf}
 use Rattle.map.specs.declared.Map.{Map}
+use Rattle.map.proofs.Split.{bank-below}
 use Rattle.model.proofs.Buffers.{placed-full, placed-room}
 use Rattle.model.proofs.Range.{head-oldest, head-count}
 use Rattle.rings.proofs.Rings.{onward-below, part-within}
 use Rattle.model.specs.Cycle.{oldestEntry, placedAt, placed}
 use Rattle.rings.specs.Places.{onward}
-use Rattle.model.specs.Lent.{Buffers, buffersIn, lent, entryWith, entryAt, putEntry, oldestOf, countOf, putHead}
-use Rattle.model.specs.Range.{Good, headOk}
+use Rattle.model.specs.Lent.{Buffers, entryNumbers, buffersIn, entryWith, entryAt, putEntry, oldestOf, countOf, putHead}
+use Rattle.model.specs.Range.{headOk, Room, GoodBuffers}
 use Rattle.model.specs.declared.Entry.{Entry}
-use Rattle.buffers.specs.Bank.{Room, Head, Buffer}
+use Rattle.heads.specs.Heads.{GoodHead}
+use Rattle.buffers.specs.Bank.{Buffer}
 use Rattle.buffers.proofs.Parts.{four-part, put-part}
 
 ------------------------------------------------------------------------
 -- What they ask
 
-module _ (s : Setup) (entries heads : List ℕ) (b : ℕ) where
-  pub room-buffer : Room s (buffersIn entries heads) → b < banksOf s → headOk s heads b ≡ true → Buffer s b (buffersIn entries heads)
-  room-buffer r l h =
+module _ (s : Setup) (entries heads : List ℕ) where
+  pub room-buffer : Sizes s → Room s (buffersIn entries heads) → (b : ℕ) → b < banksOf s → headOk s heads b ≡ true → Buffer s b (buffersIn entries heads)
+  room-buffer z r b l h =
       record {
-        head =
-            record {
-              sizes = r .sizes;
-              head-within = omega arith;
-              oldest-below = head-oldest s heads b h;
-              count-most = head-count s heads b h;
-            };
+        head = record { sizes = z; head-there = omega arith; oldest-below = head-oldest s heads b h; count-most = head-count s heads b h };
         part-within = omega (arith, part-within b (banksOf s) (s .k) l);
       }
 
-module _ (s : Setup) (memory rows entries heads : List ℕ) (g : Good s (lent memory rows entries heads)) where
-  pub good-room : Room s (buffersIn entries heads)
-  good-room = record { sizes = g .ranges .sizes; entries-long = g .entries-long; heads-long = g .heads-long }
+  module _ (r : Ranges s) (g : GoodBuffers s (buffersIn entries heads)) where
+    pub good-buffer : (b : ℕ) → b < banksOf s → Buffer s b (buffersIn entries heads)
+    good-buffer b l = room-buffer (r .sizes) (g .room) b l (g .heads-ok b l)
 
-  pub good-buffer : (b : ℕ) → b < banksOf s → Buffer s b (buffersIn entries heads)
-  good-buffer b l = room-buffer s entries heads b good-room l (g .heads-ok b l)
+    pub good-head : (b : ℕ) → b < banksOf s → GoodHead s b heads
+    good-head b l = good-buffer b l .head
 
-  pub good-head : (b : ℕ) → b < banksOf s → Head s b heads
-  good-head b l = good-buffer b l .head
+    -- the bank of any cell is one of the B
+    pub good-place : (e : Entry) → Buffer s (bankOf (mapOf s) (e .cell)) (buffersIn entries heads)
+    good-place e = good-buffer (bankOf (mapOf s) (e .cell)) (bank-below (mapOf s) (e .cell))
 
 ------------------------------------------------------------------------
 -- What they leave
 
 -- the numbers of bank b's part, as the code counts them
 abbrev pub size : ℕ → ℕ → ℕ
-size b k = 4 * (b * k) + 4 * k - 4 * (b * k)
+size b k = entryNumbers * (b * k) + entryNumbers * k - entryNumbers * (b * k)
 
 -- place j of bank b's part
 module _ (entries : List ℕ) (b k j : ℕ) (below : j < k) where
   -- the entry read in the part is that of the whole room
-  pub bank-entry : entryAt (midOf (4 * (b * k)) (size b k) entries) j ≡ entryAt entries (b * k + j)
+  pub bank-entry : entryAt (midOf (entryNumbers * (b * k)) (size b k) entries) j ≡ entryAt entries (b * k + j)
   bank-entry = four-part (b * k) (size b k) entries j (omega arith) entryWith
 
   -- the entry put in the part is put in the whole room
-  pub bank-put : (e : Entry) → 4 * (b * k) + 4 * k ≤ length entries
-      → putMid (4 * (b * k)) (size b k) entries (putEntry (midOf (4 * (b * k)) (size b k) entries) j e) ≡ putEntry entries (b * k + j) e
+  pub bank-put : (e : Entry) → entryNumbers * (b * k) + entryNumbers * k ≤ length entries
+      → putMid (entryNumbers * (b * k)) (size b k) entries (putEntry (midOf (entryNumbers * (b * k)) (size b k) entries) j e) ≡ putEntry entries (b * k + j) e
   bank-put e fits = put-part (b * k) (size b k) entries j (omega arith) (e .kind) (e .row) (e .cell .0) (e .word) (omega arith)
 
 -- oldest is the oldest place of bank b's head
 module _ (s : Setup) (b : ℕ) (entries heads : List ℕ) (asked : Buffer s b (buffersIn entries heads)) (oldest : ℕ) (o : oldest ≡ oldestOf heads b) where
-  pub oldest-left : (e : Entry) → e ≡ entryAt (midOf (4 * (b * s .k)) (size b (s .k)) entries) oldest → e ≡ oldestEntry s b (buffersIn entries heads)
+  pub oldest-left : (e : Entry) → e ≡ entryAt (midOf (entryNumbers * (b * s .k)) (size b (s .k)) entries) oldest → e ≡ oldestEntry s b (buffersIn entries heads)
   oldest-left e r = r ∙ rw o (bank-entry entries b (s .k) (oldestOf heads b) (asked .head .oldest-below))
 
   -- the part and the heads once the entry is placed
   pub placed-left : (e : Entry) (count : ℕ) (part heads′ : List ℕ) → count ≡ countOf heads b → countOf heads b < s .k
-      → part ≡ putEntry (midOf (4 * (b * s .k)) (size b (s .k)) entries) (onward (s .k) oldest count) e
+      → part ≡ putEntry (midOf (entryNumbers * (b * s .k)) (size b (s .k)) entries) (onward (s .k) oldest count) e
       → heads′ ≡ putHead heads b oldest (count + 1)
-      → buffersIn (putMid (4 * (b * s .k)) (size b (s .k)) entries part) heads′ ≡ placedAt s b e (buffersIn entries heads)
+      → buffersIn (putMid (entryNumbers * (b * s .k)) (size b (s .k)) entries part) heads′ ≡ placedAt s b e (buffersIn entries heads)
   placed-left e count part heads′ n l p h =
       let j : ℕ = onward (s .k) (oldestOf heads b) (countOf heads b) in
       let i : j < s .k = onward-below (s .k) (oldestOf heads b) (countOf heads b) (asked .head .oldest-below) (asked .head .count-most) in

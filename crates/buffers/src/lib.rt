@@ -6,11 +6,15 @@ ghost use lib.ListN.{length};
 ghost use Rattle.setup.specs.Setup.{mapOf};
 ghost use Rattle.map.specs.Map.{bankOf};
 ghost use Rattle.rings.specs.Places.{onward};
-ghost use Rattle.model.specs.Lent.{buffersIn, entryAt, putEntry, oldestOf, countOf, putHead};
-ghost use Rattle.model.specs.Cycle.{oldestEntry, popped, placedAt, placed};
-ghost use Rattle.buffers.specs.Bank.{Head, Buffer};
+ghost use Rattle.model.specs.Lent.{entryNumbers, buffersIn, entryAt, putEntry, countOf};
+ghost use Rattle.model.specs.Cycle.{oldestEntry, placedAt, placed};
+ghost use Rattle.buffers.specs.Bank.{Buffer};
+use heads::count_at;
+use heads::oldest_at;
+use heads::put_head;
 use map::Cell;
 use model::Entry;
+use model::Head;
 use rings::onward;
 use rings::put_four;
 use setup::Setup;
@@ -19,21 +23,21 @@ use setup::Setup;
 
 // The entry at place i.
 fn entry_at(part: &[u32], i: usize) -> Entry
-    requires { ⌜ 4 * i + 4 ≤ length (now part) ⌝ }
+    requires { ⌜ entryNumbers * i + entryNumbers ≤ length (now part) ⌝ }
     ensures { λ r. ⌜ r ≡ entryAt (now (part .entry)) i ⌝ }
 {
-    let at = 4 * i;
+    let at = Entry::NUMBERS * i;
     Entry {
         kind: part[at],
-        row: part[at + 1],
-        cell: Cell(part[at + 2]),
-        word: part[at + 3],
+        row: part[at + Entry::ROW],
+        cell: Cell(part[at + Entry::CELL]),
+        word: part[at + Entry::WORD],
     }
 }
 
 // The entry that has waited longest.
 fn oldest_of(part: &[u32], k: usize, oldest: u32) -> Entry
-    requires { ⌜ (length (now part) ≡ 4 * k) × (oldest < k) ⌝ }
+    requires { ⌜ (length (now part) ≡ entryNumbers * k) × (oldest < k) ⌝ }
     ensures { λ r. ⌜ r ≡ entryAt (now (part .entry)) oldest ⌝ }
 {
     entry_at(part, oldest as usize)
@@ -41,39 +45,12 @@ fn oldest_of(part: &[u32], k: usize, oldest: u32) -> Entry
 
 // First in, first out: the entry goes behind the last of the `count` that wait.
 fn push(part: &mut [u32], k: usize, oldest: u32, count: u32, e: Entry)
-    requires { ⌜ (length (now part) ≡ 4 * k) × (oldest < k) × (count < k) × (k ≤ 128) ⌝ }
+    requires { ⌜ (length (now part) ≡ entryNumbers * k) × (oldest < k) × (count < k) × (k ≤ 128) ⌝ }
     ensures { λ _. ⌜ now (part .exit) ≡ putEntry (now (part .entry)) (onward k oldest count) e ⌝ }
 {
     let at = onward(k, oldest as usize, count as usize);
     let cell = e.cell;
     put_four(part, at, e.kind, e.row, cell.0, e.word);
-}
-
-// The heads: two numbers a bank, the oldest place and the count.
-
-// The place of bank b's oldest entry.
-pub fn oldest_at(heads: &[u32], b: usize) -> u32
-    requires { ⌜ 2 * b + 2 ≤ length (now heads) ⌝ }
-    ensures { λ r. ⌜ r ≡ oldestOf (now (heads .entry)) b ⌝ }
-{
-    heads[2 * b]
-}
-
-// How many entries wait at bank b.
-pub fn count_at(heads: &[u32], b: usize) -> u32
-    requires { ⌜ 2 * b + 2 ≤ length (now heads) ⌝ }
-    ensures { λ r. ⌜ r ≡ countOf (now (heads .entry)) b ⌝ }
-{
-    heads[2 * b + 1]
-}
-
-fn put_head(heads: &mut [u32], b: usize, oldest: u32, count: u32)
-    requires { ⌜ 2 * b + 2 ≤ length (now heads) ⌝ }
-    ensures { λ _. ⌜ now (heads .exit) ≡ putHead (now (heads .entry)) b oldest count ⌝ }
-{
-    let at = 2 * b;
-    heads[at] = oldest;
-    heads[at + 1] = count;
 }
 
 // The banks: bank b's part is cut out of the middle of the entry room.
@@ -84,20 +61,9 @@ pub fn oldest_entry(s: Setup, b: usize, entries: &[u32], heads: &[u32]) -> Entry
     ensures { λ r. ⌜ r ≡ oldestEntry s b (buffersIn (now (entries .entry)) (now (heads .entry))) ⌝ }
 {
     let k = s.k as usize;
-    let from = 4 * (b * k); // the part to read from
-    let to = from + 4 * k;
+    let from = Entry::NUMBERS * (b * k); // the part to read from
+    let to = from + Entry::NUMBERS * k;
     oldest_of(&entries[from..to], k, oldest_at(heads, b))
-}
-
-// Bank b's oldest entry is gone: the next is the oldest, and one less waits.
-pub fn pop(s: Setup, b: usize, heads: &mut [u32])
-    requires { ⌜ Head s b (now heads) × (0 < countOf (now heads) b) ⌝ }
-    ensures { λ _. ⌜ now (heads .exit) ≡ popped s b (now (heads .entry)) ⌝ }
-{
-    let k = s.k as usize;
-    let oldest = onward(k, oldest_at(heads, b) as usize, 1) as u32;
-    let count = count_at(heads, b);
-    put_head(heads, b, oldest, count - 1);
 }
 
 // A buffer is full when it holds K.
@@ -114,12 +80,19 @@ fn place_at(s: Setup, b: usize, e: Entry, entries: &mut [u32], heads: &mut [u32]
     ensures { λ _. ⌜ buffersIn (now (entries .exit)) (now (heads .exit)) ≡ placedAt s b e (buffersIn (now (entries .entry)) (now (heads .entry))) ⌝ }
 {
     let k = s.k as usize;
-    let from = 4 * (b * k); // the part to write to
-    let to = from + 4 * k;
+    let from = Entry::NUMBERS * (b * k); // the part to write to
+    let to = from + Entry::NUMBERS * k;
     let oldest = oldest_at(heads, b);
     let count = count_at(heads, b);
     push(&mut entries[from..to], k, oldest, count, e);
-    put_head(heads, b, oldest, count + 1);
+    put_head(
+        heads,
+        b,
+        Head {
+            oldest,
+            count: count + 1,
+        },
+    );
 }
 
 // Places an entry in the buffer of its cell's bank; false, and nothing changed, where that holds K.

@@ -3,32 +3,31 @@ use Prim.Native.Nat.{ℕ, zero, suc, _+_, _-_, _*_, _/_, _≤_, _<_}
 use mathlib.Core.Bool.{Bool, true, false, not, _&&_, _||_}
 use mathlib.Core.Logic.{⊎-elim}
 use mathlib.Core.List.{List}
-use mathlib.Core.Path.{_≡_, refl, sym, ap, subst, _∙_}
-use native.Mathlib.Nat.{eq-or-lt-of-le}
+use mathlib.Core.Path.{_≡_, refl, sym, ap, _∙_}
 use native.Mathlib.Omega.{arith}
 use lib.Dec.{eqb}
-use borrow.Author.Tests.{le-leb, lt-leb, lt-ltb, le-ltb, eq-eqb, ne-eqb, eqb-true}
+use borrow.Author.Tests.{le-leb, lt-leb, lt-ltb, le-ltb}
 use borrow.Rule.Slice.PartMut.{midOf}
-use Rattle.setup.specs.Setup.{wordsOf, banksOf}
+use Rattle.setup.specs.Setup.{Ranges, wordsOf, banksOf}
 use Rattle.setup.specs.declared.Setup.{Setup}
 use Rattle.rings.proofs.Rings.{onward-either, onward-none, onward-below, part-within}
 use Rattle.model.proofs.Range.{head-ok, head-oldest, head-count, buffer-ok, buffer-head, buffers-each}
 use Rattle.model.proofs.Range as range
-use Rattle.choice.proofs.Tests.{pick-either, below-or-not}
+use Rattle.choice.proofs.Tests.{below-or-not}
 use Rattle.lanes.specs.Lanes.{pairsBelow, pairsLook, foursBelow}
 use Rattle.lanes.specs.declared.Look.{Look}
-use lib.Bits.{bitOr}
-use Rattle.flat.proofs.Flat.{le-or-l, le-or-r}
 use Rattle.lanes.proofs.Lanes.{pairs-each, pairs-every, fours-each}
 use Rattle.rings.specs.Places.{onward}
-use Rattle.model.specs.Lent.{Buffers, buffersIn, entryWith, entryAt, oldestOf, countOf}
-use Rattle.model.specs.Range.{entryOk, waitingEntry, entriesOk, headOk, bufferOk, buffersOk}
+use Rattle.model.specs.Lent.{Buffers, entryNumbers, writeEntry, buffersIn, entryWith, entryAt, oldestOf, countOf}
+use Rattle.model.specs.Range.{lengthsOf, entryOk, waitingEntry, entriesOk, bufferOk, buffersOk, Room, HeadsOk}
 use Rattle.model.specs.declared.Entry.{Entry}
 use Rattle.flat.proofs.Below.{said-no, below-more, below-out, below-all}
 use lib.ListN.{length}
 use Rattle.setup.proofs.Ranges.{banks-least}
-use Rattle.buffers.specs.Bank.{Room, Buffer}
-use Rattle.entries.specs.Entries.{partOk, HeadsIn, Quiet, nextWaiting}
+use Rattle.buffers.specs.Bank.{Buffer}
+use Rattle.entries.specs.Entries.{partOk}
+use Rattle.heads.specs.Heads.{Quiet, nextWaiting}
+use Rattle.heads.proofs.Quiet.{found-quiet}
 use Rattle.buffers.proofs.Parts.{four-part}
 use Rattle.buffers.proofs.Banks.{size, room-buffer}
 
@@ -70,86 +69,11 @@ module _ (n c k oldest : ℕ) (part : List ℕ) where
   part-all = below-all (λ (j : ℕ). entryOk n c (entryAt part (onward k oldest j))) (partOk n c k oldest part) (λ j. refl)
 
 ------------------------------------------------------------------------
--- Banks where nothing waits
-
-next-quiet : (heads : List ℕ) (b n : ℕ) → Quiet heads b (nextWaiting heads b n)
-unfolding nextWaiting
-next-quiet heads b zero = λ i h l. absurd (omega arith)
-next-quiet heads b (suc n) =
-    pick-either (Quiet heads b) (eqb (countOf heads b) 0)
-    (λ e i h l. ⊎-elim
-    (λ (q : b ≡ i). subst (λ (z : ℕ). countOf heads z ≡ 0) q (eqb-true (countOf heads b) 0 e))
-    (λ (q : b < i). next-quiet heads (suc b) n i q l)
-    (eq-or-lt-of-le h))
-    (λ e i h l. absurd (omega arith))
-
--- up to what was found
-pub found-quiet : (heads : List ℕ) (b n r : ℕ) → r ≡ nextWaiting heads b n → Quiet heads b r
-found-quiet heads b n r e = rw e (next-quiet heads b n)
-
--- from bank i on, of the banks below k: m is its count, and r what is to be found
-module _ (heads : List ℕ) (i k r : ℕ) (h : nextWaiting heads i (k - i) ≡ r) where
-  pub next-here : (m : ℕ) → i < k → m ≡ countOf heads i → (m ≡ 0 → ⊥) → i ≡ r
-  unfolding nextWaiting
-  next-here m l e n =
-      let s : k - i ≡ suc (k - i - 1) = omega arith in
-      let z : eqb (countOf heads i) 0 ≡ false = ne-eqb (countOf heads i) 0 (λ q. n (e ∙ q)) in
-      let y : nextWaiting heads i (suc (k - i - 1)) ≡ i = rw z in
-      sym y ∙ ap (nextWaiting heads i) (sym s) ∙ h
-
-  pub next-on : (m : ℕ) → i < k → m ≡ countOf heads i → m ≡ 0 → nextWaiting heads (i + 1) (k - (i + 1)) ≡ r
-  unfolding nextWaiting
-  next-on m l e n =
-      let s : k - i ≡ suc (k - (i + 1)) = omega arith in
-      let z : eqb (countOf heads i) 0 ≡ true = eq-eqb (countOf heads i) 0 (sym e ∙ n) in
-      let y : nextWaiting heads i (suc (k - (i + 1))) ≡ nextWaiting heads (suc i) (k - (i + 1)) = rw z in
-      let d : i + 1 ≡ suc i = omega arith in
-      ap (λ (z : ℕ). nextWaiting heads z (k - (i + 1))) d ∙ sym y ∙ ap (nextWaiting heads i) (sym s) ∙ h
-
-  pub next-end : k ≤ i → i ≡ r
-  unfolding nextWaiting
-  next-end l = let s : k - i ≡ 0 = omega arith in ap (nextWaiting heads i) (sym s) ∙ h
-
--- four banks more at which nothing waits; y says so
-pub next-four : (heads : List ℕ) (i k r : ℕ) (y : Bool) → nextWaiting heads i (k - i) ≡ r → 4 ≤ k - i → (y ≡ true → Quiet heads i (i + 4)) → y ≡ true
-    → nextWaiting heads (i + 4) (k - (i + 4)) ≡ r
-next-four heads i k r y h l q e =
-    let z : Quiet heads i (i + 4) = q e in
-    let a = next-on heads i k r h (countOf heads i) (omega arith) refl (z i (omega arith) (omega arith)) in
-    let b = next-on heads (i + 1) k r a (countOf heads (i + 1)) (omega arith) refl (z (i + 1) (omega arith) (omega arith)) in
-    let c = next-on heads (i + 1 + 1) k r b (countOf heads (i + 1 + 1)) (omega arith) refl (z (i + 1 + 1) (omega arith) (omega arith)) in
-    let d = next-on heads (i + 1 + 1 + 1) k r c (countOf heads (i + 1 + 1 + 1)) (omega arith) refl (z (i + 1 + 1 + 1) (omega arith) (omega arith)) in
-    let n : i + 1 + 1 + 1 + 1 ≡ i + 4 = omega arith in
-    subst (λ (j : ℕ). nextWaiting heads j (k - j) ≡ r) n d
-
--- four counts whose bits put together are none
-or-none : (a b : ℕ) → bitOr a b ≡ 0 → (a ≡ 0) × (b ≡ 0)
-or-none a b h = let p = le-or-l a b in let q = le-or-r a b in (omega arith, omega arith)
-
-pub quiet-four : (heads : List ℕ) (b w x y z : ℕ) → w ≡ countOf heads b → x ≡ countOf heads (b + 1) → y ≡ countOf heads (b + 2) → z ≡ countOf heads (b + 3)
-    → eqb (bitOr (bitOr (bitOr w x) y) z) 0 ≡ true → Quiet heads b (b + 4)
-quiet-four heads b w x y z ew ex ey ez h i l m =
-    let p = or-none (bitOr (bitOr w x) y) z (eqb-true (bitOr (bitOr (bitOr w x) y) z) 0 h) in
-    let q = or-none (bitOr w x) y (p .0) in
-    let r = or-none w x (q .0) in
-    by (i - b) (omega arith) (omega arith) (sym ew ∙ r .0) (sym ex ∙ r .1) (sym ey ∙ q .1) (sym ez ∙ p .1)
-  where
-    at : (k : ℕ) → i ≡ k → countOf heads k ≡ 0 → countOf heads i ≡ 0
-    at k e g = rw e g
-
-    by : (k : ℕ) → k < 4 → i ≡ b + k → countOf heads b ≡ 0 → countOf heads (b + 1) ≡ 0 → countOf heads (b + 2) ≡ 0 → countOf heads (b + 3) ≡ 0 → countOf heads i ≡ 0
-    by zero n e f₀ f₁ f₂ f₃ = at b (omega arith) f₀
-    by (suc zero) n e f₀ f₁ f₂ f₃ = at (b + 1) (omega arith) f₁
-    by (suc (suc zero)) n e f₀ f₁ f₂ f₃ = at (b + 2) (omega arith) f₂
-    by (suc (suc (suc zero))) n e f₀ f₁ f₂ f₃ = at (b + 3) (omega arith) f₃
-    by (suc (suc (suc (suc k)))) n e f₀ f₁ f₂ f₃ = absurd (omega arith)
-
-------------------------------------------------------------------------
 -- The buffers of the k banks, from the first on, where every head is in range. t says whether what waits at bank b is
 
-module _ (s : Setup) (q : Buffers) (g : HeadsIn s q) where
+module _ (s : Setup) (q : Buffers) (g : HeadsOk s (q .heads)) where
   waited : (b : ℕ) (t : Bool) → b < banksOf s → t ≡ entriesOk s q b (countOf (q .heads) b) → bufferOk s q b ≡ t
-  waited b t l e = rw (g .heads-ok b l, e)
+  waited b t l e = rw (g b l, e)
 
   buffers-more : (b k : ℕ) (t : Bool) → k ≡ banksOf s → buffersOk s q b ≡ true → b < k → t ≡ entriesOk s q b (countOf (q .heads) b) → t ≡ true → buffersOk s q (b + 1) ≡ true
   unfolding buffersOk
@@ -158,7 +82,7 @@ module _ (s : Setup) (q : Buffers) (g : HeadsIn s q) where
   -- and the banks up to r, where nothing waits
   quiet : (b r : ℕ) → Quiet (q .heads) b r → r ≤ banksOf s → (i : ℕ) → b ≤ i → i < r → bufferOk s q i ≡ true
   unfolding entriesOk
-  quiet b r z l i h j = rw (g .heads-ok i (omega arith), z i h j)
+  quiet b r z l i h j = rw (g i (omega arith), z i h j)
 
   buffers-quiet : (b r k : ℕ) → k ≡ banksOf s → buffersOk s q b ≡ true → Quiet (q .heads) b r → r ≤ k → buffersOk s q r ≡ true
   buffers-quiet b r k e h z l =
@@ -188,7 +112,7 @@ some-bank s banks e = rw e (banks-least s)
 
 module _ (s : Setup) (entries heads : List ℕ) (k banks : ℕ) (ek : k ≡ s .k) (eb : banks ≡ banksOf s) where
   -- a head is in range where its pair is
-  heads-each : (m : ℕ) → m ≤ k + 1 → pairsBelow k m heads banks ≡ true → (b : ℕ) → b < banksOf s → headOk s heads b ≡ true
+  heads-each : (m : ℕ) → m ≤ k + 1 → pairsBelow k m heads banks ≡ true → HeadsOk s heads
   heads-each m n h b l = let p = pairs-each k m heads banks h b (omega arith) in head-ok s heads b (omega arith) (omega arith)
 
   module _ (r : Look) (e : r ≡ pairsLook k (k + 1) heads banks) where
@@ -201,8 +125,8 @@ module _ (s : Setup) (entries heads : List ℕ) (k banks : ℕ) (ek : k ≡ s .k
         buffer-ok s (buffersIn entries heads) b (heads-each 1 (omega arith) z b l) (λ i g. absurd (omega arith))))
 
     -- every head is in range
-    pub told-below : r .below ≡ true → Room s (buffersIn entries heads) → HeadsIn s (buffersIn entries heads)
-    told-below h room = record { room = room; heads-ok = heads-each (k + 1) (omega arith) (sym (ap (λ (x : Look). x .below) e) ∙ h) }
+    pub told-below : r .below ≡ true → HeadsOk s heads
+    told-below h = heads-each (k + 1) (omega arith) (sym (ap (λ (x : Look). x .below) e) ∙ h)
 
     -- one is not
     pub told-out : r .below ≡ false → false ≡ buffersOk s (buffersIn entries heads) (banksOf s)
@@ -221,27 +145,27 @@ module _ (s : Setup) (entries heads : List ℕ) (k banks : ℕ) (ek : k ≡ s .k
             said-no (sym z ∙ y)
 
 -- every place of the entry room is in range
-pub all-plain : (s : Setup) (entries heads : List ℕ) (words : ℕ) (u : Bool) → HeadsIn s (buffersIn entries heads) → words ≡ wordsOf s
-    → u ≡ foursBelow 2 (s .c) words entries (length entries / 4) → u ≡ true → true ≡ buffersOk s (buffersIn entries heads) (banksOf s)
-all-plain s entries heads words u g ew eu hu =
-    let long : length entries ≡ 4 * (banksOf s * s .k) = g .room .entries-long in
+pub all-plain : (s : Setup) (entries heads : List ℕ) (words : ℕ) (u : Bool) → Room s (buffersIn entries heads) → HeadsOk s heads → words ≡ wordsOf s
+    → u ≡ foursBelow (writeEntry + 1) (s .c) words entries (length entries / entryNumbers) → u ≡ true → true ≡ buffersOk s (buffersIn entries heads) (banksOf s)
+all-plain s entries heads words u room g ew eu hu =
+    let long : length entries ≡ lengthsOf s .entries = room .entries-long in
     sym (range.buffers-all s (buffersIn entries heads) (banksOf s) (λ b l.
-    buffer-ok s (buffersIn entries heads) b (g .heads-ok b l) (λ i h.
-    let o = head-oldest s heads b (g .heads-ok b l) in
-    let c = head-count s heads b (g .heads-ok b l) in
+    buffer-ok s (buffersIn entries heads) b (g b l) (λ i h.
+    let o = head-oldest s heads b (g b l) in
+    let c = head-count s heads b (g b l) in
     let j : ℕ = onward (s .k) (oldestOf heads b) i in
     let y : j < s .k = onward-below (s .k) (oldestOf heads b) i o (omega arith) in
     let w = part-within b (banksOf s) (s .k) l in
-    let p = fours-each 2 (s .c) words entries (length entries / 4) (sym eu ∙ hu) (b * s .k + j) (omega arith) in
+    let p = fours-each (writeEntry + 1) (s .c) words entries (length entries / entryNumbers) (sym eu ∙ hu) (b * s .k + j) (omega arith) in
     range.entry-ok (wordsOf s) (s .c) (waitingEntry s (buffersIn entries heads) b i) (omega arith) (omega arith) (λ r. omega arith))))
 
 ------------------------------------------------------------------------
 -- In the bank's part, which has m numbers
 
-module _ (s : Setup) (entries heads : List ℕ) (b m : ℕ) (wide : 4 * s .k ≤ m) (below : oldestOf heads b < s .k) where
+module _ (s : Setup) (entries heads : List ℕ) (b m : ℕ) (wide : entryNumbers * s .k ≤ m) (below : oldestOf heads b < s .k) where
   -- the entries that wait there are those that wait at the bank
   pub part-entries : (i : ℕ) → i ≤ s .k
-      → partOk (wordsOf s) (s .c) (s .k) (oldestOf heads b) (midOf (4 * (b * s .k)) m entries) i ≡ entriesOk s (buffersIn entries heads) b i
+      → partOk (wordsOf s) (s .c) (s .k) (oldestOf heads b) (midOf (entryNumbers * (b * s .k)) m entries) i ≡ entriesOk s (buffersIn entries heads) b i
   unfolding partOk entriesOk
   part-entries zero h = refl
   part-entries (suc i) h =
@@ -280,13 +204,13 @@ module _ (n c : ℕ) (e : Entry) where
 -- A bank's buffer
 
 -- where every head is in range
-pub heads-buffer : (s : Setup) (entries heads : List ℕ) (b banks : ℕ) → HeadsIn s (buffersIn entries heads) → banks ≡ banksOf s → b < banks → Buffer s b (buffersIn entries heads)
-heads-buffer s entries heads b banks g e l = room-buffer s entries heads b (g .room) (omega arith) (g .heads-ok b (omega arith))
+pub heads-buffer : (s : Setup) (entries heads : List ℕ) (b banks : ℕ) → Ranges s → Room s (buffersIn entries heads) → HeadsOk s heads → banks ≡ banksOf s → b < banks → Buffer s b (buffersIn entries heads)
+heads-buffer s entries heads b banks r room g e l = room-buffer s entries heads (r .sizes) room b (omega arith) (g b (omega arith))
 
 -- oldest is the oldest place of bank b's head, and t what the test of the waiting entries in its part answered
 pub waiting-left : (s : Setup) (b : ℕ) (entries heads : List ℕ) → Buffer s b (buffersIn entries heads) → (oldest : ℕ) → oldest ≡ oldestOf heads b
     → (count words : ℕ) (t : Bool) → count ≡ countOf heads b → words ≡ wordsOf s
-    → t ≡ partOk words (s .c) (s .k) oldest (midOf (4 * (b * s .k)) (size b (s .k)) entries) count
+    → t ≡ partOk words (s .c) (s .k) oldest (midOf (entryNumbers * (b * s .k)) (size b (s .k)) entries) count
     → t ≡ entriesOk s (buffersIn entries heads) b (countOf heads b)
 waiting-left s b entries heads asked oldest o count words t n w r =
     r ∙ rw (o, n, w) (part-entries s entries heads b (size b (s .k)) (omega arith) (asked .head .oldest-below) (countOf heads b) (asked .head .count-most))

@@ -4,31 +4,32 @@ ghost use mathlib.Core.Bool.{true, _&&_};
 ghost use Prim.Native.Nat.{_+_, _-_, _*_, _/_, _≤_, _<_};
 ghost use lib.Dec.{ltb};
 ghost use lib.ListN.{length};
-ghost use Rattle.setup.specs.Setup.{wordsOf, banksOf};
-ghost use Rattle.model.specs.Lent.{buffersIn, entryAt, countOf};
-ghost use Rattle.model.specs.Range.{entryOk, entriesOk, buffersOk};
-ghost use Rattle.buffers.specs.Bank.{Room, Buffer};
-ghost use Rattle.entries.specs.Entries.{partOk, HeadsIn, Quiet, nextWaiting};
-use buffers::count_at;
-use buffers::oldest_at;
+ghost use Rattle.setup.specs.Setup.{Ranges, wordsOf, banksOf};
+ghost use Rattle.model.specs.Lent.{entryNumbers, headNumbers, buffersIn, entryAt, countOf};
+ghost use Rattle.model.specs.Range.{entryOk, entriesOk, buffersOk, Room, HeadsOk};
+ghost use Rattle.buffers.specs.Bank.{Buffer};
+ghost use Rattle.entries.specs.Entries.{partOk};
+use heads::count_at;
+use heads::next_waiting;
+use heads::oldest_at;
 use model::Entry;
 use rings::next;
 use setup::Setup;
 
 // A kind that is coded, a cell below n, and of a read entry a row below c. A write entry names row 0, so the last test nearly never comes to the kind.
 fn entry_ok(part: &[u32], i: usize, n: u32, c: u32) -> bool
-    requires { ⌜ 4 * i + 4 ≤ length (now part) ⌝ }
+    requires { ⌜ entryNumbers * i + entryNumbers ≤ length (now part) ⌝ }
     ensures { λ r. ⌜ r ≡ entryOk n c (entryAt (now (part .entry)) i) ⌝ }
 {
-    let at = 4 * i;
+    let at = Entry::NUMBERS * i;
     let kind = part[at];
     if Entry::WRITE < kind {
         return false;
     }
-    if n <= part[at + 2] {
+    if n <= part[at + Entry::CELL] {
         return false;
     }
-    if part[at + 1] < c {
+    if part[at + Entry::ROW] < c {
         return true;
     }
     kind != Entry::READ
@@ -36,7 +37,7 @@ fn entry_ok(part: &[u32], i: usize, n: u32, c: u32) -> bool
 
 // The `count` waiting entries, from the oldest on.
 fn part_ok(part: &[u32], k: usize, oldest: u32, count: u32, n: u32, c: u32) -> bool
-    requires { ⌜ (length (now part) ≡ 4 * k) × (oldest < k) × (count ≤ k) × (k ≤ 128) ⌝ }
+    requires { ⌜ (length (now part) ≡ entryNumbers * k) × (oldest < k) × (count ≤ k) × (k ≤ 128) ⌝ }
     ensures { λ r. ⌜ r ≡ partOk n c k oldest (now (part .entry)) count ⌝ }
 {
     let mut at = oldest as usize;
@@ -58,56 +59,16 @@ fn waiting_ok(s: Setup, n: u32, b: usize, entries: &[u32], heads: &[u32]) -> boo
     ensures { λ r. ⌜ r ≡ entriesOk s (buffersIn (now (entries .entry)) (now (heads .entry))) b (countOf (now (heads .entry)) b) ⌝ }
 {
     let k = s.k as usize;
-    let from = 4 * (b * k); // the part to look through
-    let to = from + 4 * k;
+    let from = Entry::NUMBERS * (b * k); // the part to look through
+    let to = from + Entry::NUMBERS * k;
     let oldest = oldest_at(heads, b);
     let count = count_at(heads, b);
     part_ok(&entries[from..to], k, oldest, count, n, s.c as u32)
 }
 
-// Nothing waits at four banks from b on: their counts put together are 0.
-fn four_quiet(heads: &[u32], b: usize) -> bool
-    requires { ⌜ 2 * b + 8 ≤ length (now heads) ⌝ }
-    ensures { λ yes. ⌜ (yes ≡ true → Quiet (now (heads .entry)) b (b + 4)) ⌝ }
-{
-    (count_at(heads, b) | count_at(heads, b + 1) | count_at(heads, b + 2) | count_at(heads, b + 3))
-        == 0
-}
-
-// The first bank from b on where something waits, or the number of banks: one by one.
-fn next_of_few(heads: &[u32], b: usize, banks: usize) -> usize
-    requires { ⌜ (length (now heads) ≡ 2 * banks) × (b ≤ banks) ⌝ }
-    ensures { λ r. ⌜ (r ≡ nextWaiting (now (heads .entry)) b (banks - b)) × (b ≤ r) × (r ≤ banks) ⌝ }
-{
-    let mut i = b;
-    while i < banks {
-        if count_at(heads, i) != 0 {
-            return i;
-        }
-        i += 1;
-    }
-    i
-}
-
-// The same by fours, as long as nothing waits there: at most banks nothing does as a rule.
-pub fn next_waiting(heads: &[u32], b: usize, banks: usize) -> usize
-    requires { ⌜ (length (now heads) ≡ 2 * banks) × (b ≤ banks) ⌝ }
-    ensures { λ r. ⌜ (r ≡ nextWaiting (now (heads .entry)) b (banks - b)) × (b ≤ r) × (r ≤ banks) ⌝ }
-{
-    let mut i = b;
-    while 4 <= banks - i {
-        if four_quiet(heads, i) {
-            i += 4;
-        } else {
-            return next_of_few(heads, i, banks);
-        }
-    }
-    next_of_few(heads, i, banks)
-}
-
 // Of each of the B buffers, whose heads are in range, the entries that wait; of n words.
 fn each_ok(s: Setup, n: u32, banks: usize, entries: &[u32], heads: &[u32]) -> bool
-    requires { ⌜ HeadsIn s (buffersIn (now entries) (now heads)) × (n ≡ wordsOf s) × (banks ≡ banksOf s) ⌝ }
+    requires { ⌜ Ranges s × Room s (buffersIn (now entries) (now heads)) × HeadsOk s (now heads) × (n ≡ wordsOf s) × (banks ≡ banksOf s) ⌝ }
     ensures { λ r. ⌜ r ≡ buffersOk s (buffersIn (now (entries .entry)) (now (heads .entry))) (banksOf s) ⌝ }
 {
     let mut b = next_waiting(heads, 0, banks);
@@ -123,7 +84,7 @@ fn each_ok(s: Setup, n: u32, banks: usize, entries: &[u32], heads: &[u32]) -> bo
 
 // Whether more than half the places of the first and of the last bank wait: in most runs most places then do.
 fn crowded(s: Setup, banks: usize, heads: &[u32]) -> bool
-    requires { ⌜ (length (now heads) ≡ 2 * banks) × (0 < banks) ⌝ }
+    requires { ⌜ (length (now heads) ≡ headNumbers * banks) × (0 < banks) ⌝ }
     ensures { λ r. ⌜ r ≡ ltb (s .k / 2) (countOf (now (heads .entry)) 0) && ltb (s .k / 2) (countOf (now (heads .entry)) (banks - 1)) ⌝ }
 {
     let half = (s.k as u32) / 2;
@@ -132,11 +93,17 @@ fn crowded(s: Setup, banks: usize, heads: &[u32]) -> bool
 
 // The same: where many wait, yes at once if every place of the entry room is in range as it stands, whether it waits or not.
 fn all_ok(s: Setup, n: u32, banks: usize, entries: &[u32], heads: &[u32]) -> bool
-    requires { ⌜ HeadsIn s (buffersIn (now entries) (now heads)) × (n ≡ wordsOf s) × (banks ≡ banksOf s) ⌝ }
+    requires { ⌜ Ranges s × Room s (buffersIn (now entries) (now heads)) × HeadsOk s (now heads) × (n ≡ wordsOf s) × (banks ≡ banksOf s) ⌝ }
     ensures { λ r. ⌜ r ≡ buffersOk s (buffersIn (now (entries .entry)) (now (heads .entry))) (banksOf s) ⌝ }
 {
     if crowded(s, banks, heads) {
-        if lanes::fours_below(entries, entries.len() / 4, Entry::WRITE + 1, s.c as u32, n) {
+        if lanes::fours_below(
+            entries,
+            entries.len() / Entry::NUMBERS,
+            Entry::WRITE + 1,
+            s.c as u32,
+            n,
+        ) {
             return true;
         }
     }
@@ -145,7 +112,7 @@ fn all_ok(s: Setup, n: u32, banks: usize, entries: &[u32], heads: &[u32]) -> boo
 
 // Each of the B buffers, of n words: the heads all at once, oldest places below K and counts at most K, then what waits, if anything does.
 pub fn buffers_ok(s: Setup, n: u32, entries: &[u32], heads: &[u32]) -> bool
-    requires { ⌜ Room s (buffersIn (now entries) (now heads)) × (n ≡ wordsOf s) ⌝ }
+    requires { ⌜ Ranges s × Room s (buffersIn (now entries) (now heads)) × (n ≡ wordsOf s) ⌝ }
     ensures { λ r. ⌜ r ≡ buffersOk s (buffersIn (now (entries .entry)) (now (heads .entry))) (banksOf s) ⌝ }
 {
     let banks = s.banks() as usize;

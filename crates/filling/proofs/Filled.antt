@@ -12,7 +12,7 @@ use borrow.Author.Tests.{ne-eqb}
 use borrow.Rule.Slice.PartMut.{midOf}
 use Rattle.flat.specs.Flat.{block, times}
 use Rattle.flat.proofs.Parts.{part-free}
-use Rattle.model.specs.Lent.{rowAt, waitingKind}
+use Rattle.model.specs.Lent.{rowNumbers, kinds, links, rowAt, waitingKind}
 use Rattle.model.specs.Cycle.{lacks, filledRow, filledBelow}
 use Rattle.model.specs.declared.Row.{Row}
 use Rattle.choice.proofs.Tests.{pick-either, same-or-not, below-or-not}
@@ -80,8 +80,8 @@ and-no true = refl
 and-no false = refl
 
 -- where row p has its word and no row of a block of the links names it, as n says, the rows there lack nothing
-pub block-calm : (c p w from to low n : ℕ) (l : List ℕ) → length l ≡ 4 * c → block ≤ c → from ≤ to → to ≤ c → to ≤ from + block → low ≡ to - block
-    → Has c p l → n ≡ times p (midOf (2 * c + low) (2 * c + low + block - (2 * c + low)) l) → n ≡ 0 → l ≡ filledFrom c p w from (to - from) l
+pub block-calm : (c p w from to low n : ℕ) (l : List ℕ) → length l ≡ rowNumbers * c → block ≤ c → from ≤ to → to ≤ c → to ≤ from + block → low ≡ to - block
+    → Has c p l → n ≡ times p (midOf (links c + low) (links c + low + block - (links c + low)) l) → n ≡ 0 → l ≡ filledFrom c p w from (to - from) l
 block-calm c p w from to low n l long g o b t e h f z = filled-calm c p w from l (to - from) calm
   where
     calm : Calm c p l from (to - from)
@@ -90,22 +90,22 @@ block-calm c p w from to low n l long g o b t e h f z = filled-calm c p w from l
         (λ (e : from + k ≡ p). subst (λ (z : ℕ). lacks p z (rowAt c l z) ≡ false) (sym e) h)
         (λ (d : from + k ≡ p → ⊥).
         let x : eqb (from + k) p ≡ false = ne-eqb (from + k) p d in
-        let y : eqb (getD l (2 * c + (from + k)) 0) p ≡ false =
-        ne-eqb (getD l (2 * c + (from + k)) 0) p
-        (part-free (2 * c + low) (2 * c + low + block) l (omega arith) p (2 * c + (from + k)) n f z (omega arith) (omega arith)) in
-        rw (x, y) (and-no (eqb (getD l (from + k) 0) waitingKind)))
+        let y : eqb (getD l (links c + (from + k)) 0) p ≡ false =
+        ne-eqb (getD l (links c + (from + k)) 0) p
+        (part-free (links c + low) (links c + low + block) l (omega arith) p (links c + (from + k)) n f z (omega arith) (omega arith)) in
+        rw (x, y) (and-no (eqb (getD l (kinds c + (from + k)) 0) waitingKind)))
         (same-or-not (from + k) p)
 
 -- a row that has got its word lacks nothing
 filled-has : (p w i : ℕ) (r : Row) → lacks p i (filled p w i r) ≡ false
 filled-has p w i r = pick-either (λ (x : Row). lacks p i x ≡ false) (lacks p i r) (λ h. refl) (λ h. h)
 
-pub has-filled : (c p w : ℕ) (l m : List ℕ) → length l ≡ 4 * c → p < c → m ≡ filledRow c p w p l → Has c p m
+pub has-filled : (c p w : ℕ) (l m : List ℕ) → length l ≡ rowNumbers * c → p < c → m ≡ filledRow c p w p l → Has c p m
 has-filled c p w l m long b h =
     ap (lacks p p) (ap (λ (x : List ℕ). rowAt c x p) h ∙ row-filled-same c p w p l b (omega arith)) ∙ filled-has p w p (rowAt c l p)
 
 -- and keeps it as the others get theirs
-pub has-kept : (c p w i : ℕ) (l m : List ℕ) → length l ≡ 4 * c → p < c → i ≤ c → Has c p l → m ≡ filledBelow c p w i l → Has c p m
+pub has-kept : (c p w i : ℕ) (l m : List ℕ) → length l ≡ rowNumbers * c → p < c → i ≤ c → Has c p l → m ≡ filledBelow c p w i l → Has c p m
 has-kept c p w i l m long b n h e =
     ⊎-elim
     (λ (q : p < i). ap (lacks p p) (ap (λ (x : List ℕ). rowAt c x p) e ∙ row-filled-below c p w i l p n (omega arith) q) ∙ filled-has p w p (rowAt c l p))
@@ -116,7 +116,7 @@ has-kept c p w i l m long b n h e =
 twice : (p w i : ℕ) (r : Row) → filled p w i (filled p w i r) ≡ filled p w i r
 twice p w i r = rw (filled-has p w i r)
 
-pub filled-first : (c p w : ℕ) (l k m : List ℕ) → length l ≡ 4 * c → p < c → k ≡ filledRow c p w p l → m ≡ filledBelow c p w c k → m ≡ filledBelow c p w c l
+pub filled-first : (c p w : ℕ) (l k m : List ℕ) → length l ≡ rowNumbers * c → p < c → k ≡ filledRow c p w p l → m ≡ filledBelow c p w c k → m ≡ filledBelow c p w c l
 filled-first c p w l k m long b hk hm =
     hm
     ∙ ap (filledBelow c p w c) hk

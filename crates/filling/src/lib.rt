@@ -4,6 +4,7 @@ ghost use mathlib.Core.Path.{_≡_};
 ghost use Prim.Native.Nat.{_+_, _-_, _*_, _≤_, _<_};
 ghost use lib.ListN.{length};
 ghost use Rattle.flat.specs.Flat.{block};
+ghost use Rattle.model.specs.Lent.{rowNumbers};
 ghost use Rattle.model.specs.Cycle.{lacks, withWord, filledRow, filledBelow};
 ghost use Rattle.filling.specs.Filling.{Has, filledFrom};
 use model::Row;
@@ -30,7 +31,7 @@ fn with_word(r: Row, w: u32) -> Row
 
 // Row p's entry has brought the word w: row i gets it, if it lacks it.
 fn fill_row(rows: &mut [u32], c: usize, i: usize, p: u32, w: u32)
-    requires { ⌜ (length (now rows) ≡ 4 * c) × (i < c) × (c ≤ 4096) ⌝ }
+    requires { ⌜ (length (now rows) ≡ rowNumbers * c) × (i < c) × (c ≤ 4096) ⌝ }
     ensures { λ _. ⌜ now (rows .exit) ≡ filledRow c p w i (now (rows .entry)) ⌝ }
 {
     let r = table::row_at(rows, c, i);
@@ -41,7 +42,7 @@ fn fill_row(rows: &mut [u32], c: usize, i: usize, p: u32, w: u32)
 
 // The rows from one place up to another, row by row.
 fn fill_few(rows: &mut [u32], c: usize, from: usize, to: usize, p: u32, w: u32)
-    requires { ⌜ (length (now rows) ≡ 4 * c) × (from ≤ to) × (to ≤ c) × (c ≤ 4096) ⌝ }
+    requires { ⌜ (length (now rows) ≡ rowNumbers * c) × (from ≤ to) × (to ≤ c) × (c ≤ 4096) ⌝ }
     ensures { λ _. ⌜ now (rows .exit) ≡ filledFrom c p w from (to - from) (now (rows .entry)) ⌝ }
 {
     let mut i = from;
@@ -54,10 +55,10 @@ fn fill_few(rows: &mut [u32], c: usize, from: usize, to: usize, p: u32, w: u32)
 // The rows from one place up to another that is at most a block on, where row p has its word:
 // row by row only where one of the block names row p.
 fn fill_block(rows: &mut [u32], c: usize, from: usize, to: usize, p: u32, w: u32)
-    requires { ⌜ (length (now rows) ≡ 4 * c) × (block ≤ c) × (from ≤ to) × (to ≤ c) × (to ≤ from + block) × (c ≤ 4096) × Has c p (now rows) ⌝ }
+    requires { ⌜ (length (now rows) ≡ rowNumbers * c) × (block ≤ c) × (from ≤ to) × (to ≤ c) × (to ≤ from + block) × (c ≤ 4096) × Has c p (now rows) ⌝ }
     ensures { λ _. ⌜ now (rows .exit) ≡ filledFrom c p w from (to - from) (now (rows .entry)) ⌝ }
 {
-    let at = 2 * c + flat::block_of(to);
+    let at = Row::LINKS * c + flat::block_of(to);
     if flat::times(&rows[at..at + flat::BLOCK], p) == 0 {
         return;
     }
@@ -77,7 +78,7 @@ fn block_above(i: usize, c: usize) -> usize
 
 // Every row, where row p has its word.
 fn fill_others(rows: &mut [u32], c: usize, p: u32, w: u32)
-    requires { ⌜ (length (now rows) ≡ 4 * c) × (block ≤ c) × (p < c) × (c ≤ 4096) × Has c p (now rows) ⌝ }
+    requires { ⌜ (length (now rows) ≡ rowNumbers * c) × (block ≤ c) × (p < c) × (c ≤ 4096) × Has c p (now rows) ⌝ }
     ensures { λ _. ⌜ now (rows .exit) ≡ filledBelow c p w c (now (rows .entry)) ⌝ }
 {
     let mut i = 0;
@@ -90,7 +91,7 @@ fn fill_others(rows: &mut [u32], c: usize, p: u32, w: u32)
 
 // Row p's entry has brought the word w: every row that lacks it gets it. Row p first, since its own block always names it.
 pub fn fill(rows: &mut [u32], c: usize, p: u32, w: u32)
-    requires { ⌜ (length (now rows) ≡ 4 * c) × (p < c) × (c ≤ 4096) ⌝ }
+    requires { ⌜ (length (now rows) ≡ rowNumbers * c) × (p < c) × (c ≤ 4096) ⌝ }
     ensures { λ _. ⌜ now (rows .exit) ≡ filledBelow c p w c (now (rows .entry)) ⌝ }
 {
     if c < flat::BLOCK {

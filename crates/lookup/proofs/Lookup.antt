@@ -7,14 +7,15 @@ use mathlib.Core.Bool.{Bool, true, false, and-false}
 use mathlib.Core.List.{List}
 use Rattle.choice.specs.Choice.{pick}
 use Rattle.rings.specs.Places.{back}
-use Rattle.model.specs.Lent.{rowAt}
+use Rattle.model.specs.Lent.{rowNumbers, addresses, rowAt}
 use Rattle.model.specs.Cycle.{scan}
+use Rattle.model.specs.Range.{Within}
 use Rattle.model.specs.declared.Row.{Row}
 use Rattle.model.specs.declared.Found.{Found}
 use Rattle.model.specs.declared.Found.the-variants.{At, Nothing}
 use Rattle.rings.proofs.Rings.{back-straight, back-round}
 use Rattle.flat.specs.Flat.{block, times}
-use Rattle.lookup.specs.Lookup.{Within, Alone, Nearby, wanted}
+use Rattle.lookup.specs.Lookup.{Alone, Nearby, wanted}
 use Rattle.flat.proofs.Parts.{part-free, part-alone}
 use Rattle.map.specs.declared.Address.{Address}
 use borrow.Author.Tests.{ne-eqb, ltb-false}
@@ -187,42 +188,42 @@ other-address true a r h = simp (ne-eqb (r .address .0) (a .0) h, and-false)
 other-address false a r h = simp (ne-eqb (r .address .0) (a .0) h, and-false)
 
 -- rows of which none has the address
-rows-free : (written : Bool) (a : Address) (c from to : ℕ) (l : List ℕ) → from ≤ to → ((j : ℕ) → from ≤ j → j < to → getD l (c + j) 0 ≡ a .0 → ⊥)
+rows-free : (written : Bool) (a : Address) (c from to : ℕ) (l : List ℕ) → from ≤ to → ((j : ℕ) → from ≤ j → j < to → getD l (addresses c + j) 0 ≡ a .0 → ⊥)
     → Nothing ≡ scan (wanted written a) c l (to - from) to
 rows-free written a c from to l o h =
     scan-free (wanted written a) c l (to - from) to (omega arith)
     (λ (j : ℕ) (x : j < to) (y : to ≤ j + (to - from)). other-address written a (rowAt c l j) (h j (omega arith) x))
 
 -- the rows of a block, in which the address stands n times: none
-pub block-free : (written : Bool) (a : Address) (c from to n : ℕ) (l : List ℕ) → length l ≡ 4 * c → to ≡ from + block → to ≤ c
-    → n ≡ times (a .0) (midOf (c + from) (c + from + block - (c + from)) l) → n ≡ 0 → Nothing ≡ scan (wanted written a) c l (to - from) to
+pub block-free : (written : Bool) (a : Address) (c from to n : ℕ) (l : List ℕ) → length l ≡ rowNumbers * c → to ≡ from + block → to ≤ c
+    → n ≡ times (a .0) (midOf (addresses c + from) (addresses c + from + block - (addresses c + from)) l) → n ≡ 0 → Nothing ≡ scan (wanted written a) c l (to - from) to
 block-free written a c from to n l long e b f z =
     rows-free written a c from to l (omega arith) (λ j x y.
-    part-free (c + from) (c + from + block) l (omega arith) (a .0) (c + j) n f z (omega arith) (omega arith))
+    part-free (addresses c + from) (addresses c + from + block) l (omega arith) (a .0) (addresses c + j) n f z (omega arith) (omega arith))
 
 -- no rows
 pub rest-none : (written : Bool) (a : Address) (c from to : ℕ) (l : List ℕ) → to ≤ from → Nothing ≡ scan (wanted written a) c l (to - from) to
 rest-none written a c from to l h = sym (scan-none (wanted written a) c l (to - from) to (omega arith))
 
 -- the rows below `to` of a block, in which the address stands n times: none
-pub rest-free : (written : Bool) (a : Address) (c from to low n : ℕ) (l : List ℕ) → length l ≡ 4 * c → block ≤ c → from < to → to ≤ c → to ≤ from + block → low ≡ to - block
-    → n ≡ times (a .0) (midOf (c + low) (c + low + block - (c + low)) l) → n ≡ 0 → Nothing ≡ scan (wanted written a) c l (to - from) to
+pub rest-free : (written : Bool) (a : Address) (c from to low n : ℕ) (l : List ℕ) → length l ≡ rowNumbers * c → block ≤ c → from < to → to ≤ c → to ≤ from + block → low ≡ to - block
+    → n ≡ times (a .0) (midOf (addresses c + low) (addresses c + low + block - (addresses c + low)) l) → n ≡ 0 → Nothing ≡ scan (wanted written a) c l (to - from) to
 rest-free written a c from to low n l long g o b t e f z =
     rows-free written a c from to l (omega arith) (λ j x y.
-    part-free (c + low) (c + low + block) l (omega arith) (a .0) (c + j) n f z (omega arith) (omega arith))
+    part-free (addresses c + low) (addresses c + low + block) l (omega arith) (a .0) (addresses c + j) n f z (omega arith) (omega arith))
 
 -- the address stands n times in the block from `low` on: not at all, or at the position alone
-module _ (c position low a n : ℕ) (l : List ℕ) (long : length l ≡ 4 * c) (o : low ≤ position) (p : position < low + block) (b : low + block ≤ c)
-    (f : n ≡ times a (midOf (c + low) (c + low + block - (c + low)) l)) where
+module _ (c position low a n : ℕ) (l : List ℕ) (long : length l ≡ rowNumbers * c) (o : low ≤ position) (p : position < low + block) (b : low + block ≤ c)
+    (f : n ≡ times a (midOf (addresses c + low) (addresses c + low + block - (addresses c + low)) l)) where
   pub near-none : ltb 0 n ≡ false → Alone c position low a l
   near-none h j x y d q =
       let z : n ≤ 0 = ltb-false 0 n h in
-      part-free (c + low) (c + low + block) l (omega arith) a (c + j) n f (omega arith) (omega arith) (omega arith) q
+      part-free (addresses c + low) (addresses c + low + block) l (omega arith) a (addresses c + j) n f (omega arith) (omega arith) (omega arith) q
 
-  pub near-own : getD l (c + position) 0 ≡ a → ltb 1 n ≡ false → Alone c position low a l
+  pub near-own : getD l (addresses c + position) 0 ≡ a → ltb 1 n ≡ false → Alone c position low a l
   near-own e h j x y d q =
       let z : n ≤ 1 = ltb-false 1 n h in
-      part-alone (c + low) (c + low + block) l (omega arith) a (c + j) (c + position) n f z (omega arith) (omega arith) (omega arith) (omega arith)
+      part-alone (addresses c + low) (addresses c + low + block) l (omega arith) a (addresses c + j) (addresses c + position) n f z (omega arith) (omega arith) (omega arith) (omega arith)
       (λ s. d (omega arith)) e q
 
 -- the rows of the block with the position, then those of the blocks below; those of the blocks above, then those of the block.

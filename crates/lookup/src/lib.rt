@@ -5,9 +5,10 @@ ghost use mathlib.Core.Bool.{false};
 ghost use Prim.Native.Nat.{_+_, _-_, _*_, _≤_, _<_};
 ghost use lib.ListN.{length};
 ghost use Rattle.flat.specs.Flat.{block};
-ghost use Rattle.model.specs.Lent.{rowAt};
+ghost use Rattle.model.specs.Lent.{rowNumbers, rowAt};
 ghost use Rattle.model.specs.Cycle.{scan, isOf, writes};
-ghost use Rattle.lookup.specs.Lookup.{wanted, Within, Alone, Nearby};
+ghost use Rattle.model.specs.Range.{Within};
+ghost use Rattle.lookup.specs.Lookup.{wanted, Alone, Nearby};
 use map::Address;
 use model::Found;
 use model::Row;
@@ -15,11 +16,11 @@ use model::Row;
 // A row of this address: a write where only those are wanted, else any that is not empty.
 // Whole addresses are compared, and first: most rows differ there.
 fn wanted(rows: &[u32], c: usize, i: usize, a: Address, written: bool) -> bool
-    requires { ⌜ (length (now rows) ≡ 4 * c) × (i < c) ⌝ }
+    requires { ⌜ (length (now rows) ≡ rowNumbers * c) × (i < c) ⌝ }
     ensures { λ hit. ⌜ hit ≡ wanted written a (rowAt c (now (rows .entry)) i) ⌝ }
 {
-    if rows[c + i] == a.0 {
-        let kind = rows[i];
+    if rows[Row::ADDRESSES * c + i] == a.0 {
+        let kind = rows[Row::KINDS * c + i];
         if written {
             kind == Row::WRITE
         } else {
@@ -32,7 +33,7 @@ fn wanted(rows: &[u32], c: usize, i: usize, a: Address, written: bool) -> bool
 
 // The last such row from one place up to another, row by row.
 fn scan_few(rows: &[u32], c: usize, from: usize, to: usize, a: Address, written: bool) -> Found
-    requires { ⌜ (length (now rows) ≡ 4 * c) × (from ≤ to) × (to ≤ c) ⌝ }
+    requires { ⌜ (length (now rows) ≡ rowNumbers * c) × (from ≤ to) × (to ≤ c) ⌝ }
     ensures { λ r. ⌜ (r ≡ scan (wanted written a) c (now (rows .entry)) (to - from) to) × Within to r ⌝ }
 {
     let mut i = to;
@@ -47,10 +48,10 @@ fn scan_few(rows: &[u32], c: usize, from: usize, to: usize, a: Address, written:
 
 // The last such row of a block: row by row only where one of them has the address.
 fn scan_block(rows: &[u32], c: usize, from: usize, to: usize, a: Address, written: bool) -> Found
-    requires { ⌜ (length (now rows) ≡ 4 * c) × (to ≡ from + block) × (to ≤ c) ⌝ }
+    requires { ⌜ (length (now rows) ≡ rowNumbers * c) × (to ≡ from + block) × (to ≤ c) ⌝ }
     ensures { λ r. ⌜ (r ≡ scan (wanted written a) c (now (rows .entry)) (to - from) to) × Within to r ⌝ }
 {
-    let at = c + from;
+    let at = Row::ADDRESSES * c + from;
     if flat::times(&rows[at..at + flat::BLOCK], a.0) == 0 {
         return Found::Nothing;
     }
@@ -59,13 +60,13 @@ fn scan_block(rows: &[u32], c: usize, from: usize, to: usize, a: Address, writte
 
 // The last such row from one place up to another, fewer than a block on: row by row only where a block that they are in has the address.
 fn scan_rest(rows: &[u32], c: usize, from: usize, to: usize, a: Address, written: bool) -> Found
-    requires { ⌜ (length (now rows) ≡ 4 * c) × (block ≤ c) × (from ≤ to) × (to ≤ c) × (to ≤ from + block) ⌝ }
+    requires { ⌜ (length (now rows) ≡ rowNumbers * c) × (block ≤ c) × (from ≤ to) × (to ≤ c) × (to ≤ from + block) ⌝ }
     ensures { λ r. ⌜ (r ≡ scan (wanted written a) c (now (rows .entry)) (to - from) to) × Within to r ⌝ }
 {
     if to <= from {
         return Found::Nothing;
     }
-    let at = c + flat::block_of(to);
+    let at = Row::ADDRESSES * c + flat::block_of(to);
     if flat::times(&rows[at..at + flat::BLOCK], a.0) == 0 {
         return Found::Nothing;
     }
@@ -74,7 +75,7 @@ fn scan_rest(rows: &[u32], c: usize, from: usize, to: usize, a: Address, written
 
 // The last such row from one place up to another: straight down by blocks, so that no step has to look for the end of the table.
 fn scan_part(rows: &[u32], c: usize, from: usize, to: usize, a: Address, written: bool) -> Found
-    requires { ⌜ (length (now rows) ≡ 4 * c) × (block ≤ c) × (from ≤ to) × (to ≤ c) ⌝ }
+    requires { ⌜ (length (now rows) ≡ rowNumbers * c) × (block ≤ c) × (from ≤ to) × (to ≤ c) ⌝ }
     ensures { λ r. ⌜ (r ≡ scan (wanted written a) c (now (rows .entry)) (to - from) to) × Within to r ⌝ }
 {
     let mut i = to;
@@ -102,12 +103,12 @@ fn block_with(position: usize, c: usize) -> usize
 
 // Whether a row of the block from place `low` on, other than the row at the position, has the address.
 fn near(rows: &[u32], c: usize, position: usize, low: usize, a: Address) -> bool
-    requires { ⌜ (length (now rows) ≡ 4 * c) × (low ≤ position) × (position < low + block) × (low + block ≤ c) ⌝ }
+    requires { ⌜ (length (now rows) ≡ rowNumbers * c) × (low ≤ position) × (position < low + block) × (low + block ≤ c) ⌝ }
     ensures { λ yes. ⌜ (yes ≡ false → Alone c position low (a .0) (now (rows .entry))) ⌝ }
 {
-    let at = c + low;
+    let at = Row::ADDRESSES * c + low;
     let hits = flat::times(&rows[at..at + flat::BLOCK], a.0);
-    if rows[c + position] == a.0 {
+    if rows[Row::ADDRESSES * c + position] == a.0 {
         return 1 < hits;
     }
     0 < hits
@@ -160,7 +161,7 @@ fn scan_above(
 
 // The first such row before the position, going round: below it, else above it; a table that is shorter than a block row by row.
 fn scan(rows: &[u32], c: usize, position: usize, a: Address, written: bool) -> Found
-    requires { ⌜ (length (now rows) ≡ 4 * c) × (position < c) ⌝ }
+    requires { ⌜ (length (now rows) ≡ rowNumbers * c) × (position < c) ⌝ }
     ensures { λ r. ⌜ (r ≡ scan (wanted written a) c (now (rows .entry)) (c - 1) position) × Within c r ⌝ }
 {
     if c < flat::BLOCK {
@@ -179,7 +180,7 @@ fn scan(rows: &[u32], c: usize, position: usize, a: Address, written: bool) -> F
 
 // The newest live row of this address, as the row at the position arrives.
 pub fn newest_live(rows: &[u32], c: usize, position: usize, a: Address) -> Found
-    requires { ⌜ (length (now rows) ≡ 4 * c) × (position < c) ⌝ }
+    requires { ⌜ (length (now rows) ≡ rowNumbers * c) × (position < c) ⌝ }
     ensures { λ r. ⌜ (r ≡ scan (isOf a) c (now (rows .entry)) (c - 1) position) × Within c r ⌝ }
 {
     scan(rows, c, position, a, false)
@@ -187,7 +188,7 @@ pub fn newest_live(rows: &[u32], c: usize, position: usize, a: Address) -> Found
 
 // The newest live write to this address, as the row at the position retires.
 pub fn newest_write(rows: &[u32], c: usize, position: usize, a: Address) -> Found
-    requires { ⌜ (length (now rows) ≡ 4 * c) × (position < c) ⌝ }
+    requires { ⌜ (length (now rows) ≡ rowNumbers * c) × (position < c) ⌝ }
     ensures { λ r. ⌜ (r ≡ scan (writes a) c (now (rows .entry)) (c - 1) position) × Within c r ⌝ }
 {
     scan(rows, c, position, a, true)

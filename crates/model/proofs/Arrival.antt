@@ -17,7 +17,7 @@ use Rattle.model.specs.declared.Row.{Row}
 use Rattle.model.specs.declared.Found.{Found}
 use Rattle.model.specs.declared.Found.the-variants.{At, Nothing}
 use Rattle.model.specs.Lent.{Lent, Buffers, writeKind, readKind, waitingKind, rowWith, rowAt, emptyRow}
-use Rattle.model.specs.Range.{rowOk, entryOk, Good}
+use Rattle.model.specs.Range.{rowOk, entryOk, GoodRows, GoodBuffers, Good}
 use Rattle.model.specs.declared.Placing.{Placing}
 use Rattle.model.specs.declared.Placing.the-variants.{NoEntry, OneEntry}
 use Rattle.model.specs.declared.Plan.{Plan}
@@ -25,9 +25,9 @@ use Rattle.model.specs.Cycle.{isOf, newestLive, newestWrite, placedIf, w
 use Rattle.model.specs.Calls.{addressOk}
 use Rattle.choice.proofs.Tests.{pick-good, pick-either}
 use Rattle.model.proofs.Range.{row-ok, row-link, entry-ok}
-use Rattle.model.proofs.Rows.{GoodRows, put-row-good, scan-below}
-use Rattle.model.proofs.Buffers.{GoodBuffers, placed-good}
-use Rattle.model.proofs.Good.{good-rows, good-buffers, good-parts, withBuffers, with-buffers-good}
+use Rattle.model.proofs.Rows.{put-row-good, scan-below}
+use Rattle.model.proofs.Buffers.{placed-good}
+use Rattle.model.proofs.Good.{withBuffers, with-buffers-good}
 
 ------------------------------------------------------------------------
 -- Entries of any address are in range
@@ -63,7 +63,7 @@ module _ (s : Setup) (r : Ranges s) (q : Buffers) (g : GoodBuffers s q) where
 pub retired-good : (s : Setup) (position : ℕ) (x : Lent) → Good s x → Good s (withBuffers (retired s position (x .rows) (x .buffers) .1) x)
 retired-good s position x g =
     with-buffers-good s x (retired s position (x .rows) (x .buffers) .1) g
-    (retired-buffers-good s (g .ranges) (x .buffers) (good-buffers s x g) position (x .rows))
+    (retired-buffers-good s (g .ranges) (x .buffers) (g .buffers) position (x .rows))
 
 ------------------------------------------------------------------------
 -- The rows that arrive are in range
@@ -149,6 +149,6 @@ pub arrived-good : (s : Setup) (position : ℕ) (op : Operation) (x : Lent) → 
 arrived-good s position op x g h t =
     let p : Plan = planned s position op (x .rows) in
     let w =
-    arrived-parts-good s position h (x .rows) (good-rows s x g) (x .buffers) (good-buffers s x g) p
-    (planned-ok s (g .ranges) position h (x .rows) (good-rows s x g) op t) in
-    good-parts s (withArrived (arrived s position p (x .rows) (x .buffers)) x) (g .ranges) (g .memory-long) (w .0) (w .1)
+    arrived-parts-good s position h (x .rows) (g .rows) (x .buffers) (g .buffers) p
+    (planned-ok s (g .ranges) position h (x .rows) (g .rows) op t) in
+    record { ranges = g .ranges; memory-long = g .memory-long; rows = w .0; buffers = w .1 }

@@ -14,20 +14,13 @@ use Rattle.map.specs.Map.{bankOf}
 use Rattle.map.proofs.Split.{bank-below}
 use Rattle.model.specs.declared.Entry.{Entry}
 use Rattle.rings.specs.Places.{onward}
-use Rattle.model.specs.Lent.{Buffers, buffersIn, entryAt, oldestOf, countOf}
-use Rattle.model.specs.Range.{entryOk, waitingEntry, headOk}
+use Rattle.model.specs.Lent.{Buffers, entryNumbers, headNumbers, buffersIn, entryAt, oldestOf, countOf}
+use Rattle.model.specs.Range.{entryOk, waitingEntry, headOk, GoodBuffers}
 use Rattle.model.specs.Cycle.{oldestEntry, popped, placedAt, placed}
 use Rattle.choice.proofs.Tests.{pick-either, same-or-not, below-or-not}
 use Rattle.model.proofs.Lent.{length-put-entry, entry-put-same, entry-put-other, length-put-head, oldest-put-same, oldest-put-other, count-put-same, count-put-other}
 use Rattle.rings.proofs.Rings.{onward-none, onward-below, onward-next, onward-differ, part-within, parts-differ}
 use Rattle.model.proofs.Range.{head-ok, head-oldest, head-count}
-
--- the part of `Good` that speaks of the buffers
-pub record GoodBuffers (s : Setup) (q : Buffers) : Type 0 where
-  pub entries-long : length (q .entries) ≡ 4 * (banksOf s * s .k)
-  pub heads-long : length (q .heads) ≡ 2 * banksOf s
-  pub heads-ok : (b : ℕ) → b < banksOf s → headOk s (q .heads) b ≡ true
-  pub entries-ok : (b i : ℕ) → b < banksOf s → i < countOf (q .heads) b → entryOk (wordsOf s) (s .c) (waitingEntry s q b i) ≡ true
 
 module _ (s : Setup) (q : Buffers) (g : GoodBuffers s q) (b : ℕ) (h : b < banksOf s) where
   pub oldest-below : oldestOf (q .heads) b < s .k
@@ -36,8 +29,8 @@ module _ (s : Setup) (q : Buffers) (g : GoodBuffers s q) (b : ℕ) (h : b < bank
   pub count-most : countOf (q .heads) b ≤ s .k
   count-most = head-count s (q .heads) b (g .heads-ok b h)
 
-  head-within : 2 * b + 1 < length (q .heads)
-  head-within = omega (arith, g .heads-long)
+  head-within : headNumbers * b + 1 < length (q .heads)
+  head-within = omega (arith, g .room .heads-long)
 
 -- the buffers q' are good where only bank b's differs from q, and that one is in range
 module _ (s : Setup) (q q' : Buffers) (b : ℕ) where
@@ -52,8 +45,7 @@ module _ (s : Setup) (q q' : Buffers) (b : ℕ) where
       → GoodBuffers s q'
   changed-good g entries heads head waiting oldest count others =
       record {
-        entries-long = entries ∙ g .entries-long;
-        heads-long = heads ∙ g .heads-long;
+        room = record { entries-long = entries ∙ g .room .entries-long; heads-long = heads ∙ g .room .heads-long };
         heads-ok =
             λ j l. ⊎-elim
             (λ e. subst (λ (k : ℕ). headOk s (q' .heads) k ≡ true) (sym e) head)
@@ -148,13 +140,13 @@ module _ (s : Setup) (q : Buffers) (b : ℕ) (e : Entry) where
     pub count-placed : countOf (placedAt s b e q .heads) b ≡ countOf (q .heads) b + 1
     count-placed = count-put-same (q .heads) b _ _ (head-within s q g b h)
 
-    pub next-within : 4 * nextPlace s b q + 4 ≤ length (q .entries)
+    pub next-within : entryNumbers * nextPlace s b q + entryNumbers ≤ length (q .entries)
     next-within =
         omega (
           arith,
           onward-below (s .k) (oldestOf (q .heads) b) (countOf (q .heads) b) (oldest-below s q g b h) (count-most s q g b h),
           part-within b (banksOf s) (s .k) h,
-          g .entries-long,
+          g .room .entries-long,
         )
 
     pub waiting-placed-last : waitingEntry s (placedAt s b e q) b (countOf (q .heads) b) ≡ e

@@ -121,23 +121,24 @@ good s x g lengths rows buffers =
     record {
       ranges = g;
       memory-long = search (and-l, and-r, eqb-true);
-      rows-long = search (and-l, and-r, eqb-true);
-      entries-long = search (and-l, and-r, eqb-true);
-      heads-long = search (and-l, and-r, eqb-true);
-      rows-ok = rows-each _ _ _ _ rows;
-      heads-ok = λ b l. buffer-head s (x .buffers) b (buffers-each s (x .buffers) (banksOf s) buffers b l);
-      entries-ok = λ b i l. buffer-entries s (x .buffers) b (buffers-each s (x .buffers) (banksOf s) buffers b l) i;
+      rows = record { long = search (and-l, and-r, eqb-true); ok = rows-each _ _ _ _ rows };
+      buffers =
+          record {
+            room = record { entries-long = search (and-l, and-r, eqb-true); heads-long = search (and-l, and-r, eqb-true) };
+            heads-ok = λ b l. buffer-head s (x .buffers) b (buffers-each s (x .buffers) (banksOf s) buffers b l);
+            entries-ok = λ b i l. buffer-entries s (x .buffers) b (buffers-each s (x .buffers) (banksOf s) buffers b l) i;
+          };
     }
 
 pub lengths-true : (s : Setup) (x : Lent) → Good s x → lengthsOk s x ≡ true
 lengths-true s x g = search (and-true, eq-eqb)
 
 pub rows-true : (s : Setup) (x : Lent) → Good s x → rowsOk (wordsOf s) (s .c) (x .rows) (s .c) ≡ true
-rows-true s x g = rows-all _ _ _ _ (g .rows-ok)
+rows-true s x g = rows-all _ _ _ _ (g .rows .ok)
 
 pub buffers-true : (s : Setup) (x : Lent) → Good s x → buffersOk s (x .buffers) (banksOf s) ≡ true
 buffers-true s x g =
-    buffers-all s (x .buffers) (banksOf s) (λ b l. buffer-ok s (x .buffers) b (g .heads-ok b l) (λ i. g .entries-ok b i l))
+    buffers-all s (x .buffers) (banksOf s) (λ b l. buffer-ok s (x .buffers) b (g .buffers .heads-ok b l) (λ i. g .buffers .entries-ok b i l))
 
 pub ready : (s : Setup) (t : State) (x : Lent) → Ranges s → lengthsOk s x ≡ true → numbersOk s t (x .rows) (x .buffers) ≡ true → Ready s t x
 ready s t x g lengths numbers =

@@ -13,15 +13,13 @@ use Rattle.setup.proofs.Ranges.{and-l, and-r}
 use Rattle.port.specs.declared.Operation.{Operation}
 use Rattle.port.specs.declared.Delivery.{Delivery}
 use Rattle.model.specs.declared.State.{State}
-use Rattle.model.specs.Lent.{Lent, Buffers, buffersIn, rowAt, emptyRow, oldestOf, countOf}
-use Rattle.model.specs.Range.{lengthsOk, rowOk, Good, Ready}
+use Rattle.model.specs.Lent.{Lent, Buffers, headNumbers, kinds, addresses, links, words, buffersIn, rowAt, emptyRow, oldestOf, countOf}
+use Rattle.model.specs.Range.{lengthsOf, lengthsOk, rowOk, GoodRows, GoodBuffers, Good, Ready}
 use Rattle.model.specs.Cycle.{served, delivered, retired, planned, nextState, going, withMemory, afterService, passed}
 use Rattle.model.specs.Calls.{addressOk, freshState, freshLent}
 use Rattle.rings.proofs.Rings.{onward-below}
 use Rattle.model.proofs.Range.{head-ok}
-use Rattle.model.proofs.Rows.{GoodRows}
-use Rattle.model.proofs.Buffers.{GoodBuffers}
-use Rattle.model.proofs.Good.{good-buffers, good-parts, withBuffers, with-buffers-good}
+use Rattle.model.proofs.Good.{withBuffers, with-buffers-good}
 use Rattle.model.proofs.Service.{served-good}
 use Rattle.model.proofs.Arrival.{retired-buffers-good, arrived-good}
 
@@ -35,34 +33,33 @@ c-least-one s r =
     omega (arith, r .delta-least, r .c-least)
 
 module _ (s : Setup) where
-  pub fresh-row : (i : ℕ) → i < s .c → rowAt (s .c) (replicate (4 * s .c) 0) i ≡ emptyRow
+  pub fresh-row : (i : ℕ) → i < s .c → rowAt (s .c) (replicate (lengthsOf s .rows) 0) i ≡ emptyRow
   fresh-row i l =
       rw (
-        getD-replicate {A = ℕ} (4 * s .c) i 0 0 (omega arith),
-        getD-replicate {A = ℕ} (4 * s .c) (s .c + i) 0 0 (omega arith),
-        getD-replicate {A = ℕ} (4 * s .c) (2 * s .c + i) 0 0 (omega arith),
-        getD-replicate {A = ℕ} (4 * s .c) (3 * s .c + i) 0 0 (omega arith),
+        getD-replicate {A = ℕ} (lengthsOf s .rows) (kinds (s .c) + i) 0 0 (omega arith),
+        getD-replicate {A = ℕ} (lengthsOf s .rows) (addresses (s .c) + i) 0 0 (omega arith),
+        getD-replicate {A = ℕ} (lengthsOf s .rows) (links (s .c) + i) 0 0 (omega arith),
+        getD-replicate {A = ℕ} (lengthsOf s .rows) (words (s .c) + i) 0 0 (omega arith),
       )
 
-  fresh-rows-good : GoodRows s (replicate (4 * s .c) 0)
+  fresh-rows-good : GoodRows s (replicate (lengthsOf s .rows) 0)
   fresh-rows-good =
-      record { long = length-replicate (4 * s .c) 0; ok = λ i l. ap (rowOk (wordsOf s) (s .c)) (fresh-row i l) }
+      record { long = length-replicate (lengthsOf s .rows) 0; ok = λ i l. ap (rowOk (wordsOf s) (s .c)) (fresh-row i l) }
 
   -- an empty buffer has its oldest place at 0, and nothing waits
-  fresh-oldest : (b : ℕ) → b < banksOf s → oldestOf (replicate (2 * banksOf s) 0) b ≡ 0
-  fresh-oldest b h = getD-replicate {A = ℕ} (2 * banksOf s) (2 * b) 0 0 (omega arith)
+  fresh-oldest : (b : ℕ) → b < banksOf s → oldestOf (replicate (lengthsOf s .heads) 0) b ≡ 0
+  fresh-oldest b h = getD-replicate {A = ℕ} (lengthsOf s .heads) (headNumbers * b) 0 0 (omega arith)
 
-  pub fresh-count : (b : ℕ) → b < banksOf s → countOf (replicate (2 * banksOf s) 0) b ≡ 0
-  fresh-count b h = getD-replicate {A = ℕ} (2 * banksOf s) (2 * b + 1) 0 0 (omega arith)
+  pub fresh-count : (b : ℕ) → b < banksOf s → countOf (replicate (lengthsOf s .heads) 0) b ≡ 0
+  fresh-count b h = getD-replicate {A = ℕ} (lengthsOf s .heads) (headNumbers * b + 1) 0 0 (omega arith)
 
-  fresh-buffers-good : (entries : List ℕ) → Ranges s → length entries ≡ 4 * (banksOf s * s .k)
-      → GoodBuffers s (buffersIn entries (replicate (2 * banksOf s) 0))
+  fresh-buffers-good : (entries : List ℕ) → Ranges s → length entries ≡ lengthsOf s .entries
+      → GoodBuffers s (buffersIn entries (replicate (lengthsOf s .heads) 0))
   fresh-buffers-good entries r long =
       record {
-        entries-long = long;
-        heads-long = length-replicate (2 * banksOf s) 0;
+        room = record { entries-long = long; heads-long = length-replicate (lengthsOf s .heads) 0 };
         heads-ok =
-            λ b h. head-ok s (replicate (2 * banksOf s) 0) b
+            λ b h. head-ok s (replicate (lengthsOf s .heads) 0) b
             (omega (arith, fresh-oldest b h, r .sizes .k-least))
             (omega (arith, fresh-count b h));
         entries-ok = λ b i h l. absurd (omega (arith, fresh-count b h));
@@ -72,9 +69,12 @@ pub fresh-ready : (s : Setup) (x : Lent) → Ranges s → lengthsOk s x ≡ true
 fresh-ready s x r lengths =
     record {
       good =
-          good-parts s (freshLent s x) r (search (and-l, and-r, eqb-true))
-          (fresh-rows-good s)
-          (fresh-buffers-good s (x .buffers .entries) r (search (and-l, and-r, eqb-true)));
+          record {
+            ranges = r;
+            memory-long = search (and-l, and-r, eqb-true);
+            rows = fresh-rows-good s;
+            buffers = fresh-buffers-good s (x .buffers .entries) r (search (and-l, and-r, eqb-true));
+          };
       turn = omega (arith, r .sizes .m-least);
       position = c-least-one s r;
     }
@@ -112,4 +112,4 @@ module _ (s : Setup) (t : State) where
       going-ready op (delivered s (t .position) (y .rows)) y (retired s (t .position) (y .rows) (y .buffers))
       (record { good = g; turn = r .turn; position = r .position })
       a
-      (retired-buffers-good s (r .good .ranges) (y .buffers) (good-buffers s y g) (t .position) (y .rows))
+      (retired-buffers-good s (r .good .ranges) (y .buffers) (g .buffers) (t .position) (y .rows))

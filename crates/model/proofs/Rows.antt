@@ -15,20 +15,15 @@ use Rattle.setup.specs.declared.Setup.{Setup}
 use Rattle.setup.proofs.Ranges.{and-l}
 use Rattle.model.specs.declared.Row.{Row}
 use Rattle.model.specs.declared.Found.{Found}
-use Rattle.model.specs.declared.Found.the-variants.{At, Nothing}
+use Rattle.model.specs.declared.Found.the-variants.{At}
 use Rattle.rings.specs.Places.{back}
-use Rattle.model.specs.Lent.{waitingKind, rowAt, putRow}
-use Rattle.model.specs.Range.{rowOk}
+use Rattle.model.specs.Lent.{rowNumbers, waitingKind, rowAt, putRow}
+use Rattle.model.specs.Range.{rowOk, GoodRows, Within}
 use Rattle.model.specs.Cycle.{lacks, withWord, filledRow, filledBelow, scan}
 use Rattle.choice.proofs.Tests.{pick-good, pick-either, pick-map, below-or-not, same-or-not}
 use Rattle.model.proofs.Lent.{length-put-row, row-put-same, row-put-other}
 use Rattle.rings.proofs.Rings.{back-below}
 use Rattle.model.proofs.Range.{row-ok, row-address}
-
--- the part of `Good` that speaks of the rows
-pub record GoodRows (s : Setup) (rows : List ℕ) : Type 0 where
-  pub long : length rows ≡ 4 * s .c
-  pub ok : (i : ℕ) → i < s .c → rowOk (wordsOf s) (s .c) (rowAt (s .c) rows i) ≡ true
 
 pub put-row-good : (s : Setup) (rows : List ℕ) → GoodRows s rows → (i : ℕ) (r : Row) → i < s .c → rowOk (wordsOf s) (s .c) r ≡ true
     → GoodRows s (putRow (s .c) rows i r)
@@ -58,7 +53,7 @@ module _ (c p w i : ℕ) (rows : List ℕ) where
       (length-put-row c rows i (withWord (rowAt c rows i) w))
       refl
 
-  pub row-filled-same : i < c → 4 * c ≤ length rows → rowAt c (filledRow c p w i rows) i ≡ filled p w i (rowAt c rows i)
+  pub row-filled-same : i < c → rowNumbers * c ≤ length rows → rowAt c (filledRow c p w i rows) i ≡ filled p w i (rowAt c rows i)
   row-filled-same b h =
       pick-map (λ (l : List ℕ). rowAt c l i) (lacks p i (rowAt c rows i)) (putRow c rows i (withWord (rowAt c rows i) w)) rows
       ∙ ap (λ (r : Row). pick (lacks p i (rowAt c rows i)) r (rowAt c rows i)) (row-put-same c rows i (withWord (rowAt c rows i) w) b h)
@@ -80,7 +75,7 @@ row-filled-above c p w zero rows i b h = refl
 row-filled-above c p w (suc n) rows i b h =
     row-filled-other c p w n (filledBelow c p w n rows) i (omega arith) b (λ e. omega arith) ∙ row-filled-above c p w n rows i b (omega arith)
 
-pub row-filled-below : (c p w n : ℕ) (rows : List ℕ) (i : ℕ) → n ≤ c → 4 * c ≤ length rows → i < n
+pub row-filled-below : (c p w n : ℕ) (rows : List ℕ) (i : ℕ) → n ≤ c → rowNumbers * c ≤ length rows → i < n
     → rowAt c (filledBelow c p w n rows) i ≡ filled p w i (rowAt c rows i)
 unfolding filledBelow
 row-filled-below c p w zero rows i m h l = absurd (not-suc-le-zero l)
@@ -118,10 +113,6 @@ filled-good s rows g p w n h =
 
 ------------------------------------------------------------------------
 -- What a lookup finds is one of the rows
-
-abbrev Within : ℕ → Found → Type 0
-Within c (At i) = i < c
-Within c Nothing = Unit
 
 scan-within : (f : Row → Bool) (c : ℕ) (rows : List ℕ) (n i : ℕ) → 0 < c → i < c → Within c (scan f c rows n i)
 unfolding scan

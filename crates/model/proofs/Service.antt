@@ -12,12 +12,11 @@ use Rattle.setup.specs.Setup.{banksOf}
 use Rattle.setup.specs.declared.Setup.{Setup}
 use Rattle.model.specs.declared.Entry.{Entry}
 use Rattle.model.specs.Lent.{Lent, writeEntry, countOf}
-use Rattle.model.specs.Range.{Good}
+use Rattle.model.specs.Range.{GoodRows, Good}
 use Rattle.model.specs.Cycle.{filledBelow, carried, oldestEntry, withCarried, servedBank, servedIf, servedBelow, served}
 use Rattle.choice.proofs.Tests.{pick-good}
-use Rattle.model.proofs.Rows.{GoodRows, filled-good}
+use Rattle.model.proofs.Rows.{filled-good}
 use Rattle.model.proofs.Buffers.{withPopped, popped-good}
-use Rattle.model.proofs.Good.{good-rows, good-buffers, good-parts}
 
 ------------------------------------------------------------------------
 -- An entry is carried out
@@ -76,11 +75,12 @@ module _ (s : Setup) (b : ℕ) (x : Lent) where
   served-bank-good g h =
       let e : Entry = oldestEntry s b (x .buffers) in
       pick-good (Good s) (eqb (countOf (x .buffers .heads) b) 0) g
-      (good-parts s (withCarried (withPopped s b (x .buffers)) (carried s e (x .memory, x .rows)))
-      (g .ranges)
-      (length-carried s e (x .memory) (x .rows) ∙ g .memory-long)
-      (carried-good s e (x .memory) (x .rows) (good-rows s x g))
-      (popped-good s (x .buffers) b (good-buffers s x g) h))
+      (record {
+        ranges = g .ranges;
+        memory-long = length-carried s e (x .memory) (x .rows) ∙ g .memory-long;
+        rows = carried-good s e (x .memory) (x .rows) (g .rows);
+        buffers = popped-good s (x .buffers) b (g .buffers) h;
+      })
 
   pub served-if-good : (turn : ℕ) → Good s x → b < banksOf s → Good s (servedIf s turn b x)
   served-if-good turn g h = pick-good (Good s) (eqb (b % s .m) turn) (served-bank-good g h) g

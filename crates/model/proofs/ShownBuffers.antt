@@ -11,10 +11,10 @@ use Rattle.setup.specs.Setup.{banksOf}
 use Rattle.setup.specs.declared.Setup.{Setup}
 use Rattle.model.specs.declared.Entry.{Entry}
 use Rattle.model.specs.Lent.{Buffers, countOf}
-use Rattle.model.specs.Range.{waitingEntry}
+use Rattle.model.specs.Range.{waitingEntry, GoodBuffers}
 use Rattle.model.specs.Cycle.{oldestEntry, placedAt}
 use Rattle.choice.proofs.Tests.{below-or-not}
-use Rattle.model.proofs.Buffers.{GoodBuffers, oldest-below, count-most, waiting-first, withPopped, count-popped, count-popped-other, waiting-popped, waiting-popped-other, count-placed, count-placed-other, waiting-placed-below, waiting-placed-last, waiting-placed-other}
+use Rattle.model.proofs.Buffers.{oldest-below, count-most, waiting-first, withPopped, count-popped, count-popped-other, waiting-popped, waiting-popped-other, count-placed, count-placed-other, waiting-placed-below, waiting-placed-last, waiting-placed-other}
 use Rattle.model.proofs.Lists.{below, length-below, below-same, below-last}
 use Rattle.model.proofs.Shown.{shownEntry, shownBuf}
 use Rattle.theory.proofs.Test.{same, lt, Says, is, isnt, same?, lt-true, lt-false}
@@ -43,7 +43,7 @@ module _ (s : Setup) (q : Buffers) (b : ℕ) where
   waits-within g {i} l =
       ⊎-elim
       (λ h. h)
-      (λ h. let z : countOf (q .heads) b ≡ 0 = List·getD-eq-default (q .heads) 0 (omega (arith, g .heads-long)) in absurd (omega arith))
+      (λ h. let z : countOf (q .heads) b ≡ 0 = List·getD-eq-default (q .heads) 0 (omega (arith, g .room .heads-long)) in absurd (omega arith))
       (below-or-not b (banksOf s))
 
 -- as many wait in q' as in q, and the same

@@ -25,15 +25,15 @@ use Rattle.model.specs.declared.Placing.{Placing}
 use Rattle.model.specs.declared.Placing.the-variants.{NoEntry, OneEntry}
 use Rattle.rings.specs.Places.{back}
 use Rattle.model.specs.Lent.{Lent, Buffers, emptyKind, writeKind, readKind, waitingKind, rowWith, rowAt, emptyRow, countOf}
-use Rattle.model.specs.Range.{rowOk, Good}
+use Rattle.model.specs.Range.{rowOk, GoodRows, Good}
 use Rattle.model.specs.Cycle.{delivered, isOf, newestLive, newestWrite, placedAt, placed, placedIf, writeOf, readOf, givenUpWrite, givenUpRow, retired, planWith, readPlan, mergedRow, mergedPlan, planned, Arrived, seated, arrived, nextState}
 use Rattle.model.specs.Calls.{addressOk}
 use Rattle.choice.proofs.Tests.{pick-good, same-or-not}
 use Rattle.rings.proofs.Rings.{back-below}
 use Rattle.model.proofs.Range.{row-kind, row-address}
-use Rattle.model.proofs.Rows.{GoodRows, scan-below}
+use Rattle.model.proofs.Rows.{scan-below}
 use Rattle.model.proofs.Buffers.{count-most, placed-full, placed-room}
-use Rattle.model.proofs.Good.{good-rows, good-buffers, withBuffers}
+use Rattle.model.proofs.Good.{withBuffers}
 use Rattle.model.proofs.Arrival.{withArrived}
 use Rattle.model.proofs.Config.{configOf, shownOp, shownDelivery}
 use Rattle.model.proofs.Shown.{shownRow, shownEntry, shownTab, shown, same-machine}
@@ -56,7 +56,7 @@ delivery-shown s t x g h =
     let l : p < s .c = back-below (s .c) (t .position) (s .delta) h (g .ranges .c-least) in
     ap (λ (i : ℕ). out (getD (shownTab s (x .rows)) i none)) (ago-shown (s .c) (s .delta) (t .position) (omega arith))
     ∙ ap out (tab-at s (x .rows) p l)
-    ∙ row-out s (rowAt (s .c) (x .rows) p) (row-kind (wordsOf s) (s .c) (rowAt (s .c) (x .rows) p) (g .rows-ok p l))
+    ∙ row-out s (rowAt (s .c) (x .rows) p) (row-kind (wordsOf s) (s .c) (rowAt (s .c) (x .rows) p) (g .rows .ok p l))
 
 ------------------------------------------------------------------------
 -- An entry is placed
@@ -69,7 +69,7 @@ module _ (s : Setup) (t : State) (x : Lent) (g : Good s x) (e : Entry) where
       let b : ℕ = bankOf (mapOf s) (e .cell) in
       let l : b < banksOf s = bank-below (mapOf s) (e .cell) in
       same-machine
-      (placed-shown s (x .buffers) (good-buffers s x g) b l (omega (arith, count-most s (x .buffers) (good-buffers s x g) b l)) e)
+      (placed-shown s (x .buffers) (g .buffers) b l (omega (arith, count-most s (x .buffers) (g .buffers) b l)) e)
       (λ a. refl)
       refl
       refl
@@ -78,7 +78,7 @@ module _ (s : Setup) (t : State) (x : Lent) (g : Good s x) (e : Entry) where
   room-free : (countOf (x .buffers .heads) (bankOf (mapOf s) (e .cell)) ≡ s .k → ⊥) → roomC (s .k) (bankOf (mapOf s) (e .cell)) (shown s t x) ≡ true
   room-free n =
       let b : ℕ = bankOf (mapOf s) (e .cell) in
-      room-shown s (x .buffers) b (omega (arith, count-most s (x .buffers) (good-buffers s x g) b (bank-below (mapOf s) (e .cell))))
+      room-shown s (x .buffers) b (omega (arith, count-most s (x .buffers) (g .buffers) b (bank-below (mapOf s) (e .cell))))
 
 ------------------------------------------------------------------------
 -- Retirement
@@ -109,7 +109,7 @@ module _ (s : Setup) (t : State) (x : Lent) (g : Good s x) where
         ≡ shownKept s t x (placedIf s (givenUpWrite s (rowWith writeKind (a .0) w link) (newestWrite s (t .position) a (x .rows))) (x .buffers))
     retire-write a w link l =
         ap (λ (b : Bool). shedC b (roomC (s .k) (bankOf (mapOf s) (cellOf (mapOf s) a)) (shown s t x)) (bankOf (mapOf s) (cellOf (mapOf s) a)) (wr (cellOf (mapOf s) a .0) w) (shown s t x))
-        (newer-shown s (g .ranges) a l (x .rows) (good-rows s x g) (s .c - 1) (t .position) h)
+        (newer-shown s (g .ranges) a l (x .rows) (g .rows) (s .c - 1) (t .position) h)
         ∙ go (newestWrite s (t .position) a (x .rows))
       where
         go : (f : Found)
@@ -142,7 +142,7 @@ module _ (s : Setup) (t : State) (x : Lent) (g : Good s x) where
             ≡ shownKept s t x (placedIf s (pick m (givenUpRow s (t .position) (rowAt (s .c) (x .rows) (t .position)) (x .rows)) NoEntry) (x .buffers))
         go true =
             ap (λ (r : machine.Row ℕ). retireRowC (configOf s) (s .k) r (shown s t x)) (tab-at s (x .rows) (t .position) h)
-            ∙ retire-row (rowAt (s .c) (x .rows) (t .position)) (g .rows-ok (t .position) h)
+            ∙ retire-row (rowAt (s .c) (x .rows) (t .position)) (g .rows .ok (t .position) h)
         go false = refl
 
 -- where it finds a buffer full, the buffers are as they were
@@ -200,7 +200,7 @@ module _ (s : Setup) (t : State) (turn : t .turn < s .m) (h : t .position < s .c
   module _ (x : Lent) (g : Good s x) where
     only-shown : (r : Row) → land s t x (only (shownRow s r)) ≡ shownLanded s t x (arrived s (t .position) (planWith r NoEntry) (x .rows) (x .buffers))
     unfolding arrived
-    only-shown r = ap (landed true) (note-shown x (good-rows s x g) r)
+    only-shown r = ap (landed true) (note-shown x (g .rows) r)
 
     seat-shown : (e : Entry) (r : Row)
         → land s t x (needs (bankOf (mapOf s) (e .cell)) (shownEntry e) (shownRow s r))
@@ -210,11 +210,11 @@ module _ (s : Setup) (t : State) (turn : t .turn < s .m) (h : t .position < s .c
         let b : ℕ = bankOf (mapOf s) (e .cell) in
         ⊎-elim
         (λ f. ap (λ (d : Bool). landed d (seatC d (configOf s) b (shownEntry e) (shownRow s r) (shown s t x))) (full-shown s (x .buffers) b f)
-        ∙ ap (landed false) (note-shown x (good-rows s x g) emptyRow)
+        ∙ ap (landed false) (note-shown x (g .rows) emptyRow)
         ∙ ap (λ (w : Bool × Buffers). shownLanded s t x (seated s (t .position) r (x .rows) w)) (sym (placed-full s e (x .buffers) f)))
         (λ n. ap (λ (d : Bool). landed d (seatC d (configOf s) b (shownEntry e) (shownRow s r) (shown s t x))) (room-free s t x g e n)
         ∙ ap (λ (c : CSt ℕ). landed true (noteC (configOf s) (shownRow s r) c)) (push-shown s t x g e n)
-        ∙ ap (landed true) (note-shown (withBuffers (placedAt s b e (x .buffers)) x) (good-rows s x g) r)
+        ∙ ap (landed true) (note-shown (withBuffers (placedAt s b e (x .buffers)) x) (g .rows) r)
         ∙ ap (λ (w : Bool × Buffers). shownLanded s t x (seated s (t .position) r (x .rows) w)) (sym (placed-room s e (x .buffers) n)))
         (same-or-not (countOf (x .buffers .heads) b) (s .k))
 
@@ -239,7 +239,7 @@ module _ (s : Setup) (t : State) (turn : t .turn < s .m) (h : t .position < s .c
     merge-shown a (At i) n =
         let l : i < s .c = n i refl .0 in
         ap (λ (r : machine.Row ℕ). land s t x (echoed s t x a r)) (tab-at s (x .rows) i l)
-        ∙ echo-shown a (rowAt (s .c) (x .rows) i) (row-kind (wordsOf s) (s .c) (rowAt (s .c) (x .rows) i) (g .rows-ok i l)) (n i refl .1)
+        ∙ echo-shown a (rowAt (s .c) (x .rows) i) (row-kind (wordsOf s) (s .c) (rowAt (s .c) (x .rows) i) (g .rows .ok i l)) (n i refl .1)
     merge-shown a Nothing n = seat-shown (readOf s (t .position) a) (rowWith waitingKind (a .0) 0 (t .position))
 
     read-shown : (a : Address) → a .0 < wordsOf s → (m : Bool)
@@ -248,7 +248,7 @@ module _ (s : Setup) (t : State) (turn : t .turn < s .m) (h : t .position < s .c
         (arrived s (t .position) (pick m (mergedPlan s (t .position) a (newestLive s (t .position) a (x .rows)) (x .rows)) (readPlan s (t .position) a)) (x .rows) (x .buffers))
     read-shown a l true =
         ap (λ (f : machine.Found). land s t x (merged s t x a f))
-        (look-shown s (g .ranges) a l (x .rows) (good-rows s x g) (s .c - 1) (t .position) h)
+        (look-shown s (g .ranges) a l (x .rows) (g .rows) (s .c - 1) (t .position) h)
         ∙ merge-shown a (newestLive s (t .position) a (x .rows))
         (λ i e. (scan-below (isOf a) (s .c) (x .rows) (s .c - 1) (t .position) h e, scan-holds (isOf a) (s .c) (x .rows) (s .c - 1) (t .position) e))
     read-shown a l false = seat-shown (readOf s (t .position) a) (rowWith waitingKind (a .0) 0 (t .position))

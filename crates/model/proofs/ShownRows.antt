@@ -17,13 +17,13 @@ use Rattle.model.specs.declared.Found.{Found}
 use Rattle.model.specs.declared.Found.the-variants.{At, Nothing}
 use Rattle.rings.specs.Places.{back}
 use Rattle.model.specs.Lent.{emptyKind, writeKind, readKind, waitingKind, rowWith, rowAt, putRow}
-use Rattle.model.specs.Range.{rowOk}
+use Rattle.model.specs.Range.{rowOk, GoodRows}
 use Rattle.model.specs.Cycle.{filledBelow, leaves, scan, isOf, writes}
 use Rattle.choice.proofs.Tests.{pick-either}
 use Rattle.model.proofs.Lent.{row-put-same, row-put-other}
 use Rattle.rings.proofs.Rings.{back-below}
 use Rattle.model.proofs.Range.{row-kind, row-address}
-use Rattle.model.proofs.Rows.{GoodRows, filled, row-filled-below}
+use Rattle.model.proofs.Rows.{filled, row-filled-below}
 use Rattle.model.proofs.Lists.{length-below, getD-below, set-below}
 use Rattle.model.proofs.Config.{shownDelivery}
 use Rattle.model.proofs.Shown.{shownRow, shownTab}

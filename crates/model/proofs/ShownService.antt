@@ -15,13 +15,11 @@ use Rattle.setup.specs.declared.Setup.{Setup}
 use Rattle.model.specs.declared.State.{State}
 use Rattle.model.specs.declared.Entry.{Entry}
 use Rattle.model.specs.Lent.{Lent, writeEntry, countOf}
-use Rattle.model.specs.Range.{Good}
+use Rattle.model.specs.Range.{GoodRows, Good}
 use Rattle.model.specs.Cycle.{filledBelow, carried, oldestEntry, withCarried, servedBank, servedIf, servedBelow, served}
 use Rattle.choice.proofs.Tests.{same-or-not}
 use Rattle.model.proofs.Range.{entry-cell}
-use Rattle.model.proofs.Rows.{GoodRows}
 use Rattle.model.proofs.Buffers.{oldest-ok, withPopped}
-use Rattle.model.proofs.Good.{good-rows, good-buffers}
 use Rattle.model.proofs.Service.{served-none, served-some, served-below-good}
 use Rattle.model.proofs.Shown.{shownEntry, shownTab, shownBuf, shown, same-machine}
 use Rattle.model.proofs.ShownRows.{tab-fill}
@@ -95,13 +93,13 @@ module _ (s : Setup) (t : State) (b : ℕ) (x : Lent) (g : Good s x) (h : b < ba
       ≡ shown s t (withCarried (withPopped s b (x .buffers)) (carried s (oldestEntry s b (x .buffers)) (x .memory, x .rows)))
   bank-some n =
       let e : Entry = oldestEntry s b (x .buffers) in
-      let f = shown-first s (x .buffers) (good-buffers s x g) b h n in
+      let f = shown-first s (x .buffers) (g .buffers) b h n in
       same-machine
-      (popped-shown s (x .buffers) (good-buffers s x g) b h)
+      (popped-shown s (x .buffers) (g .buffers) b h)
       (λ a. ap (λ (q : List (machine.Entry ℕ)). store q a (getD (x .memory) a 0)) (f .1)
-      ∙ carried-memory s e (x .memory) (x .rows) (omega (arith, entry-cell (wordsOf s) (s .c) e (oldest-ok s (x .buffers) (good-buffers s x g) b h n), g .memory-long)) a)
+      ∙ carried-memory s e (x .memory) (x .rows) (omega (arith, entry-cell (wordsOf s) (s .c) e (oldest-ok s (x .buffers) (g .buffers) b h n), g .memory-long)) a)
       (ap (λ (q : List (machine.Entry ℕ)). fillTab q (λ c. getD (x .memory) c 0) (shownTab s (x .rows))) (f .1)
-      ∙ carried-rows s e (x .memory) (x .rows) (good-rows s x g) (f .0))
+      ∙ carried-rows s e (x .memory) (x .rows) (g .rows) (f .0))
       refl
       refl
 

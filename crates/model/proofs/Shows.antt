@@ -1,5 +1,5 @@
 -- The machine over lent slices is the machine by position: a fresh start, a cycle and what waits are shown alike. Assumes nothing.
-use Prim.Native.Nat.{ℕ, suc, _-_, _*_, _<_}
+use Prim.Native.Nat.{ℕ, suc, _-_, _<_}
 use native.Mathlib.Omega.{arith}
 use mathlib.Core.Path.{_≡_, refl, sym, ap, _∙_}
 use mathlib.Core.Logic.{⊎-elim}
@@ -15,7 +15,7 @@ use Rattle.port.specs.declared.Delivery.{Delivery}
 use Rattle.model.specs.declared.State.{State}
 use Rattle.model.specs.declared.Plan.{Plan}
 use Rattle.model.specs.Lent.{Lent, Buffers, rowAt, countOf}
-use Rattle.model.specs.Range.{Good, Ready}
+use Rattle.model.specs.Range.{lengthsOf, Good, Ready}
 use Rattle.model.specs.Cycle.{served, delivered, retired, planned, arrived, nextState, going, withMemory, afterService, passed}
 use Rattle.model.specs.Calls.{addressOk, freshState, freshLent}
 use Rattle.choice.proofs.Tests.{below-or-not}
@@ -49,11 +49,11 @@ module _ (s : Setup) (t : State) (x : Lent) where
 -- A fresh start
 
 -- nothing waits, at none of the B banks nor past them
-fresh-none : (s : Setup) (b : ℕ) → countOf (replicate (2 * banksOf s) 0) b ≡ 0
+fresh-none : (s : Setup) (b : ℕ) → countOf (replicate (lengthsOf s .heads) 0) b ≡ 0
 fresh-none s b =
     ⊎-elim
     (fresh-count s b)
-    (λ l. List·getD-eq-default (replicate (2 * banksOf s) 0) 0 (omega (arith, length-replicate {A = ℕ} (2 * banksOf s) 0)))
+    (λ l. List·getD-eq-default (replicate (lengthsOf s .heads) 0) 0 (omega (arith, length-replicate {A = ℕ} (lengthsOf s .heads) 0)))
     (below-or-not b (banksOf s))
 
 pub fresh-shown : (s : Setup) (x : Lent) → Ranges s
@@ -64,7 +64,7 @@ fresh-shown s x r =
     (same-machine
     (λ b. none-shown s (freshLent s x .buffers) b (fresh-none s b))
     (λ a. refl)
-    (below-constant (s .c) (λ i. shownRow s (rowAt (s .c) (replicate (4 * s .c) 0) i)) none (λ i l. ap (shownRow s) (fresh-row s i l))
+    (below-constant (s .c) (λ i. shownRow s (rowAt (s .c) (replicate (lengthsOf s .rows) 0) i)) none (λ i l. ap (shownRow s) (fresh-row s i l))
     ∙ ap (λ (c : ℕ). replicate c none) n)
     refl
     refl)

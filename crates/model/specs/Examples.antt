@@ -1,9 +1,9 @@
 -- Small runs, computed: that memory and ideal SRAM may differ, and why demand 3 has its hypotheses.
-use Prim.Native.Nat.{ℕ, _*_}
+use Prim.Native.Nat.{ℕ}
 use mathlib.Core.Path.{_≡_}
 use mathlib.Core.List.{List, [], _∷_, map}
 use lib.ListN.{getD, take, replicate}
-use Rattle.setup.specs.Setup.{withDefaults, wordsOf, banksOf}
+use Rattle.setup.specs.Setup.{withDefaults}
 use Rattle.setup.specs.declared.Setup.{Setup}
 use Rattle.port.specs.declared.Operation.{Operation}
 use Rattle.port.specs.declared.Operation.the-variants.{Idle, Read, Write}
@@ -11,6 +11,7 @@ use Rattle.port.specs.declared.Delivery.{Delivery}
 use Rattle.port.specs.declared.Delivery.the-variants.{None, Word}
 use Rattle.port.specs.declared.Reply.{Reply}
 use Rattle.model.specs.Lent.{lent}
+use Rattle.model.specs.Range.{lengthsOf}
 use Rattle.model.specs.Calls.{freshState}
 use Rattle.model.specs.Runs.{Machine, replies, fresh}
 use Rattle.model.specs.Sram.{sram}
@@ -19,8 +20,8 @@ use Rattle.model.specs.Promises.{reached, startWord, history}
 -- rooms of zeros for a setup
 abbrev pub zeros : Setup → Machine
 zeros g =
-    let s = withDefaults g in
-    (freshState, lent (replicate (wordsOf s) 0) (replicate (4 * s .c) 0) (replicate (4 * (banksOf s * s .k)) 0) (replicate (2 * banksOf s) 0))
+    let due = lengthsOf (withDefaults g) in
+    (freshState, lent (replicate (due .memory) 0) (replicate (due .rows) 0) (replicate (due .entries) 0) (replicate (due .heads) 0))
 
 -- the answers and deliveries of a run over them
 abbrev pub heard : Setup → List Operation → List (ℕ × Delivery)

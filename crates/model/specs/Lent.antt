@@ -6,12 +6,27 @@ use Rattle.rings.specs.Places.{fourAt, putFour}
 use Rattle.model.specs.declared.Row.{Row}
 use Rattle.model.specs.declared.Entry.{Entry}
 
--- the request buffers. entries: four numbers an entry, K entries a bank. heads: two numbers a bank
+------------------------------------------------------------------------
+-- Sizes: the numbers of a row, of an entry and of a head
+
+abbrev pub rowNumbers : ℕ
+rowNumbers = 4
+
+abbrev pub entryNumbers : ℕ
+entryNumbers = 4
+
+abbrev pub headNumbers : ℕ
+headNumbers = 2
+
+------------------------------------------------------------------------
+-- The lent slices
+
+-- the request buffers: K entries a bank, and a head a bank
 pub record Buffers : Type 0 where
   pub entries : List ℕ
   pub heads : List ℕ
 
--- memory: a word a cell. rows: four numbers a row, by columns
+-- memory: a word a cell. rows: by columns
 pub record Lent : Type 0 where
   pub memory : List ℕ
   pub rows : List ℕ
@@ -25,6 +40,19 @@ lent memory rows entries heads = record { memory = memory; rows = rows; buffers 
 
 ------------------------------------------------------------------------
 -- Rows: c kinds, then c addresses, then c links, then c words
+
+-- where each column begins
+abbrev pub kinds : ℕ → ℕ
+kinds c = 0 * c
+
+abbrev pub addresses : ℕ → ℕ
+addresses c = 1 * c
+
+abbrev pub links : ℕ → ℕ
+links c = 2 * c
+
+abbrev pub words : ℕ → ℕ
+words c = 3 * c
 
 -- kind 0 is an empty row, 1 a write, 2 a read with its word, 3 a read that waits on the row its link names
 abbrev pub emptyKind : ℕ
@@ -43,11 +71,13 @@ abbrev pub rowWith : ℕ → ℕ → ℕ → ℕ → Row
 rowWith kind address word link = record { kind = kind; address = record { 0 = address }; word = word; link = link }
 
 abbrev pub rowAt : ℕ → List ℕ → ℕ → Row
-rowAt c l i = rowWith (getD l i 0) (getD l (c + i) 0) (getD l (3 * c + i) 0) (getD l (2 * c + i) 0)
+rowAt c l i =
+    rowWith (getD l (kinds c + i) 0) (getD l (addresses c + i) 0) (getD l (words c + i) 0) (getD l (links c + i) 0)
 
 abbrev pub putRow : ℕ → List ℕ → ℕ → Row → List ℕ
 putRow c l i r =
-    set (set (set (set l i (r .kind)) (c + i) (r .address .0)) (2 * c + i) (r .link)) (3 * c + i) (r .word)
+    set (set (set (set l (kinds c + i) (r .kind)) (addresses c + i) (r .address .0)) (links c + i) (r .link)) (words c + i)
+    (r .word)
 
 abbrev pub emptyRow : Row
 emptyRow = rowWith emptyKind 0 0 0
@@ -75,10 +105,10 @@ putEntry l i e = putFour l i (e .kind) (e .row) (e .cell .0) (e .word)
 -- Heads: the place of a buffer's oldest entry, and its count
 
 abbrev pub oldestOf : List ℕ → ℕ → ℕ
-oldestOf heads b = getD heads (2 * b) 0
+oldestOf heads b = getD heads (headNumbers * b) 0
 
 abbrev pub countOf : List ℕ → ℕ → ℕ
-countOf heads b = getD heads (2 * b + 1) 0
+countOf heads b = getD heads (headNumbers * b + 1) 0
 
 abbrev pub putHead : List ℕ → ℕ → ℕ → ℕ → List ℕ
-putHead heads b oldest count = set (set heads (2 * b) oldest) (2 * b + 1) count
+putHead heads b oldest count = set (set heads (headNumbers * b) oldest) (headNumbers * b + 1) count

@@ -11,13 +11,20 @@ use Rattle.model.specs.declared.State.{State}
 use Rattle.model.specs.declared.Lengths.{Lengths}
 use Rattle.model.specs.declared.Row.{Row}
 use Rattle.model.specs.declared.Entry.{Entry}
+use Rattle.model.specs.declared.Found.{Found}
+use Rattle.model.specs.declared.Found.the-variants.{At, Nothing}
 use Rattle.rings.specs.Places.{onward}
-use Rattle.model.specs.Lent.{Lent, Buffers, emptyKind, waitingKind, rowAt, readEntry, writeEntry, entryAt, oldestOf, countOf}
+use Rattle.model.specs.Lent.{Lent, Buffers, rowNumbers, entryNumbers, headNumbers, emptyKind, waitingKind, rowAt, readEntry, writeEntry, entryAt, oldestOf, countOf}
 
--- memory of N words, room for C rows and room for B·K entries, and two numbers a bank
+-- memory of N words, room for C rows and room for B·K entries, and a head a bank
 abbrev pub lengthsOf : Setup → Lengths
 lengthsOf s =
-    record { memory = wordsOf s; rows = 4 * s .c; entries = 4 * (banksOf s * s .k); heads = 2 * banksOf s }
+    record {
+      memory = wordsOf s;
+      rows = rowNumbers * s .c;
+      entries = entryNumbers * (banksOf s * s .k);
+      heads = headNumbers * banksOf s;
+    }
 
 -- every length must be exact
 abbrev pub lengthsOk : Setup → Lent → Bool
@@ -75,20 +82,37 @@ numbersOk s t rows q =
     && buffersOk s q (banksOf s)
 
 ------------------------------------------------------------------------
--- What a call knows of the lent slices once 1, 2 and 3 are past
+-- What a call knows of the lent slices: of the buffers' room once 2 is past, of the rest once 3 is
+
+pub record Room (s : Setup) (q : Buffers) : Type 0 where
+  pub entries-long : length (q .entries) ≡ lengthsOf s .entries
+  pub heads-long : length (q .heads) ≡ lengthsOf s .heads
+
+pub record GoodRows (s : Setup) (rows : List ℕ) : Type 0 where
+  pub long : length rows ≡ lengthsOf s .rows
+  pub ok : (i : ℕ) → i < s .c → rowOk (wordsOf s) (s .c) (rowAt (s .c) rows i) ≡ true
+
+abbrev pub HeadsOk : Setup → List ℕ → Type 0
+HeadsOk s heads = (b : ℕ) → b < banksOf s → headOk s heads b ≡ true
+
+pub record GoodBuffers (s : Setup) (q : Buffers) : Type 0 where
+  pub room : Room s q
+  pub heads-ok : HeadsOk s (q .heads)
+  pub entries-ok : (b i : ℕ) → b < banksOf s → i < countOf (q .heads) b → entryOk (wordsOf s) (s .c) (waitingEntry s q b i) ≡ true
 
 pub record Good (s : Setup) (x : Lent) : Type 0 where
   pub ranges : Ranges s
   pub memory-long : length (x .memory) ≡ lengthsOf s .memory
-  pub rows-long : length (x .rows) ≡ lengthsOf s .rows
-  pub entries-long : length (x .buffers .entries) ≡ lengthsOf s .entries
-  pub heads-long : length (x .buffers .heads) ≡ lengthsOf s .heads
-  pub rows-ok : (i : ℕ) → i < s .c → rowOk (wordsOf s) (s .c) (rowAt (s .c) (x .rows) i) ≡ true
-  pub heads-ok : (b : ℕ) → b < banksOf s → headOk s (x .buffers .heads) b ≡ true
-  pub entries-ok : (b i : ℕ) → b < banksOf s → i < countOf (x .buffers .heads) b → entryOk (wordsOf s) (s .c) (waitingEntry s (x .buffers) b i) ≡ true
+  pub rows : GoodRows s (x .rows)
+  pub buffers : GoodBuffers s (x .buffers)
 
 -- and of the state
 pub record Ready (s : Setup) (t : State) (x : Lent) : Type 0 where
   pub good : Good s x
   pub turn : t .turn < s .m
   pub position : t .position < s .c
+
+-- a row's place that a lookup answers is one of the c
+abbrev pub Within : ℕ → Found → Type 0
+Within c (At i) = i < c
+Within c Nothing = Unit

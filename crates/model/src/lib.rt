@@ -1,4 +1,4 @@
-// What the machine keeps: its state, its rows and its entries; and what its calls return.
+// What the machine keeps: its state, its rows, its entries and the heads of its buffers; and what its calls return.
 use map::Address;
 use map::Cell;
 use port::Reply;
@@ -23,7 +23,7 @@ pub struct Lengths {
     pub heads: u32,
 }
 
-// A row of the reservation table: four numbers of the lent row room.
+// A row of the reservation table: a number of each column of the lent row room.
 pub struct Row {
     pub kind: u32,
     pub address: Address,
@@ -33,6 +33,15 @@ pub struct Row {
 
 impl Row {
     pub const NUMBERS: usize = 4;
+
+    // The columns, one after another: c kinds, c addresses, c links, c words.
+    pub const KINDS: usize = 0;
+
+    pub const ADDRESSES: usize = 1;
+
+    pub const LINKS: usize = 2;
+
+    pub const WORDS: usize = 3;
 
     pub const EMPTY: u32 = 0;
 
@@ -45,7 +54,7 @@ impl Row {
     pub const WAITING: u32 = 3;
 }
 
-// An entry of a request buffer: four numbers of the lent entry room.
+// An entry of a request buffer: its numbers stand in the lent entry room one after another.
 pub struct Entry {
     pub kind: u32,
     pub row: u32,
@@ -56,9 +65,30 @@ pub struct Entry {
 impl Entry {
     pub const NUMBERS: usize = 4;
 
+    // The kind comes first, then the others.
+    pub const ROW: usize = 1;
+
+    pub const CELL: usize = 2;
+
+    pub const WORD: usize = 3;
+
     pub const READ: u32 = 0;
 
     pub const WRITE: u32 = 1;
+}
+
+// The head of a request buffer: its numbers stand in the lent head room one after another.
+pub struct Head {
+    // The place of the oldest entry.
+    pub oldest: u32,
+    pub count: u32,
+}
+
+impl Head {
+    pub const NUMBERS: usize = 2;
+
+    // The oldest place comes first, then the count.
+    pub const COUNT: usize = 1;
 }
 
 // What a lookup in the table answers: a row's place, or that nothing is live.

@@ -1,17 +1,17 @@
 // Service: each bank whose turn it is takes the oldest entry of its buffer.
 ghost use mathlib.Core.Path.{_≡_};
-ghost use Prim.Native.Nat.{_*_, _≤_, _<_};
+ghost use Prim.Native.Nat.{_≤_, _<_};
 ghost use lib.ListN.{length};
 ghost use Rattle.setup.specs.Setup.{banksOf};
 ghost use Rattle.model.specs.Lent.{lent, writeEntry};
 ghost use Rattle.model.specs.Cycle.{carried, servedBank, servedIf, served};
-ghost use Rattle.model.specs.Range.{Good};
+ghost use Rattle.model.specs.Range.{lengthsOf, Good};
 use model::Entry;
 use setup::Setup;
 
 // Carries an entry out: a write stores its word at its cell; a read's word goes to its row and to every row waiting on that row.
 fn carry(s: Setup, e: Entry, memory: &mut [u32], rows: &mut [u32])
-    requires { ⌜ (length (now rows) ≡ 4 * s .c) × (s .c ≤ 4096) × (e .cell .0 < length (now memory)) × ((e .kind ≡ writeEntry → ⊥) → e .row < s .c) ⌝ }
+    requires { ⌜ (length (now rows) ≡ lengthsOf s .rows) × (s .c ≤ 4096) × (e .cell .0 < length (now memory)) × ((e .kind ≡ writeEntry → ⊥) → e .row < s .c) ⌝ }
     ensures { λ _. ⌜ (now (memory .exit), now (rows .exit)) ≡ carried s e (now (memory .entry), now (rows .entry)) ⌝ }
 {
     let at = e.cell.0 as usize;
@@ -35,11 +35,11 @@ fn serve_bank(
     requires { ⌜ Good s (lent (now memory) (now rows) (now entries) (now heads)) × (b < banksOf s) ⌝ }
     ensures { λ _. ⌜ lent (now (memory .exit)) (now (rows .exit)) (now (entries .entry)) (now (heads .exit)) ≡ servedBank s b (lent (now (memory .entry)) (now (rows .entry)) (now (entries .entry)) (now (heads .entry))) ⌝ }
 {
-    if buffers::count_at(heads, b) == 0 {
+    if heads::count_at(heads, b) == 0 {
         return;
     }
     let e = buffers::oldest_entry(s, b, entries, heads);
-    buffers::pop(s, b, heads);
+    heads::pop(s, b, heads);
     carry(s, e, memory, rows);
 }
 
@@ -74,9 +74,9 @@ pub fn serve(
     ensures { λ _. ⌜ lent (now (memory .exit)) (now (rows .exit)) (now (entries .entry)) (now (heads .exit)) ≡ served s turn (lent (now (memory .entry)) (now (rows .entry)) (now (entries .entry)) (now (heads .entry))) ⌝ }
 {
     let banks = s.banks() as usize;
-    let mut b = entries::next_waiting(heads, 0, banks);
+    let mut b = heads::next_waiting(heads, 0, banks);
     while b < banks {
         serve_if(s, turn, b, memory, rows, entries, heads);
-        b = entries::next_waiting(heads, b + 1, banks);
+        b = heads::next_waiting(heads, b + 1, banks);
     }
 }

@@ -40,8 +40,8 @@ part-push-end c = search needs
 push-requires : tie.Need-push-requires
 push-requires c κs = search needs
 
-add-put-head : tie.Need-add-put-head
-add-put-head c = search needs
+add-t23 : tie.Need-add-t23
+add-t23 c = search needs
 
 put-head-requires : tie.Need-put-head-requires
 put-head-requires c κs = search needs
@@ -71,7 +71,7 @@ place-at-spec =
     part-push-start
     part-push-end
     push-requires
-    add-put-head
+    add-t23
     put-head-requires
     same-length
     same-length-2

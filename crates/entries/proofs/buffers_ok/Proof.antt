@@ -23,7 +23,7 @@ returns : tie.Need-returns
 returns c = search told-none
 
 all-ok-requires : tie.Need-all-ok-requires
-all-ok-requires c κs = (search told-below, search needs, search needs)
+all-ok-requires c κs = (search needs, search needs, search told-below, search needs, search needs)
 
 returns-2 : tie.Need-returns-2
 returns-2 c = search needs

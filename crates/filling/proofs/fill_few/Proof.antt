@@ -4,13 +4,14 @@ use Prim.Native.Nat.{_-_, _*_, _≤_}
 use native.Mathlib.Omega.{arith}
 use mathlib.Core.Path.{_≡_}
 use lib.ListN.{length}
+use Rattle.model.specs.Lent.{rowNumbers}
 use Rattle.filling.specs.Filling.{filledFrom}
 use Rattle.filling.proofs.Filled.{filled-start, filled-step, filled-end}
 use Rattle.filling.proofs.fill_few.Statement.{statement}
 use Rattle.filling.proofs.fill_few.Tie as tie
 
 abbrev Inv-loop : tie.InvT-loop
-Inv-loop rows₀ c from to p w i₀ rows i = (from ≤ i) × (i ≤ to) × (length rows ≡ 4 * c) × (rows ≡ filledFrom c p w from (i - from) rows₀)
+Inv-loop rows₀ c from to p w i₀ rows i = (from ≤ i) × (i ≤ to) × (length rows ≡ rowNumbers * c) × (rows ≡ filledFrom c p w from (i - from) rows₀)
 
 abbrev μ-loop : tie.MeasureT-loop
 μ-loop rows₀ c from to p w i₀ rows i = to - i

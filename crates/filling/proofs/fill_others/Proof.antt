@@ -4,13 +4,14 @@ use Prim.Native.Nat.{_-_, _*_, _≤_}
 use native.Mathlib.Omega.{arith}
 use mathlib.Core.Path.{_≡_}
 use lib.ListN.{length}
+use Rattle.model.specs.Lent.{rowNumbers}
 use Rattle.model.specs.Cycle.{filledBelow}
 use Rattle.filling.proofs.Filled.{filled-more, filled-all, has-kept}
 use Rattle.filling.proofs.fill_others.Statement.{statement}
 use Rattle.filling.proofs.fill_others.Tie as tie
 
 abbrev Inv-loop : tie.InvT-loop
-Inv-loop rows₀ c p w i₀ rows i = (i ≤ c) × (length rows ≡ 4 * c) × (rows ≡ filledBelow c p w i rows₀)
+Inv-loop rows₀ c p w i₀ rows i = (i ≤ c) × (length rows ≡ rowNumbers * c) × (rows ≡ filledBelow c p w i rows₀)
 
 abbrev μ-loop : tie.MeasureT-loop
 μ-loop rows₀ c p w i₀ rows i = c - i

@@ -4,6 +4,9 @@ use Rattle.lookup.proofs.Lookup.{near-none, near-own}
 use Rattle.lookup.proofs.near.Statement.{statement}
 use Rattle.lookup.proofs.near.Tie as tie
 
+mul-at : tie.Need-mul-at
+mul-at c = search needs
+
 add-at : tie.Need-add-at
 add-at c = search needs
 
@@ -25,11 +28,14 @@ part-times-end c = search needs
 times-requires : tie.Need-times-requires
 times-requires c κs = search needs
 
+mul-if1 : tie.Need-mul-if1
+mul-if1 c = search needs
+
 add-if1 : tie.Need-add-if1
 add-if1 c = search needs
 
-mul-if1 : tie.Need-mul-if1
-mul-if1 c = search needs
+mul-if1-2 : tie.Need-mul-if1-2
+mul-if1-2 c = search needs
 
 shared-slice-read-if1 : tie.Need-shared-slice-read-if1
 shared-slice-read-if1 c = search needs
@@ -44,6 +50,7 @@ pub near-spec : {M : Type 1} → statement M
 near-spec =
     tie.close
     (tie.spec
+    mul-at
     add-at
     add-times
     mul-times
@@ -51,8 +58,9 @@ near-spec =
     part-times-start
     part-times-end
     times-requires
-    add-if1
     mul-if1
+    add-if1
+    mul-if1-2
     shared-slice-read-if1
     returns
     returns-2)

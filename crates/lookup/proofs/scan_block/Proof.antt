@@ -4,6 +4,9 @@ use Rattle.lookup.proofs.Lookup.{block-free}
 use Rattle.lookup.proofs.scan_block.Statement.{statement}
 use Rattle.lookup.proofs.scan_block.Tie as tie
 
+mul-at : tie.Need-mul-at
+mul-at c = search needs
+
 add-at : tie.Need-add-at
 add-at c = search needs
 
@@ -38,6 +41,7 @@ pub scan-block-spec : {M : Type 1} → statement M
 scan-block-spec =
     tie.close
     (tie.spec
+    mul-at
     add-at
     add-times
     mul-times

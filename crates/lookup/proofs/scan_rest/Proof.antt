@@ -7,6 +7,9 @@ use Rattle.lookup.proofs.scan_rest.Tie as tie
 returns : tie.Need-returns
 returns c = (search rest-none, tt)
 
+mul-at : tie.Need-mul-at
+mul-at c = search needs
+
 block-of-requires : tie.Need-block-of-requires
 block-of-requires c κs = search needs
 
@@ -45,6 +48,7 @@ scan-rest-spec =
     tie.close
     (tie.spec
     returns
+    mul-at
     block-of-requires
     add-at
     add-times

@@ -23,17 +23,26 @@ wanted-other : (w : Bool) (a : Address) (r : Row) → (r .address .0 ≡ a .0 �
 wanted-other true a r h = simp (ne-eqb (r .address .0) (a .0) h, and-false)
 wanted-other false a r h = simp (ne-eqb (r .address .0) (a .0) h, and-false)
 
+mul-if1 : tie.Need-mul-if1
+mul-if1 c = search needs
+
 add-if1 : tie.Need-add-if1
 add-if1 c = search needs
 
-mul-if1 : tie.Need-mul-if1
-mul-if1 c = search needs
+mul-if1-2 : tie.Need-mul-if1-2
+mul-if1-2 c = search needs
 
 shared-slice-read-if1 : tie.Need-shared-slice-read-if1
 shared-slice-read-if1 c = search needs
 
 mul-kind : tie.Need-mul-kind
 mul-kind c = search needs
+
+add-kind : tie.Need-add-kind
+add-kind c = search needs
+
+mul-kind-2 : tie.Need-mul-kind-2
+mul-kind-2 c = search needs
 
 shared-slice-read-kind : tie.Need-shared-slice-read-kind
 shared-slice-read-kind c = search needs
@@ -51,10 +60,13 @@ pub wanted-spec : {M : Type 1} → statement M
 wanted-spec =
     tie.close
     (tie.spec
-    add-if1
     mul-if1
+    add-if1
+    mul-if1-2
     shared-slice-read-if1
     mul-kind
+    add-kind
+    mul-kind-2
     shared-slice-read-kind
     returns
     returns-2

@@ -8,17 +8,14 @@ use Rattle.table.proofs.put_row.Tie as tie
 mul-rows : tie.Need-mul-rows
 mul-rows c = search needs
 
-slice-write-rows : tie.Need-slice-write-rows
-slice-write-rows c = search needs
-
 add-rows : tie.Need-add-rows
 add-rows c = search needs
 
 mul-rows-2 : tie.Need-mul-rows-2
 mul-rows-2 c = search needs
 
-slice-write-rows-2 : tie.Need-slice-write-rows-2
-slice-write-rows-2 c = simp length-set (omega arith)
+slice-write-rows : tie.Need-slice-write-rows
+slice-write-rows c = search needs
 
 mul-rows-3 : tie.Need-mul-rows-3
 mul-rows-3 c = search needs
@@ -29,8 +26,8 @@ add-rows-2 c = search needs
 mul-rows-4 : tie.Need-mul-rows-4
 mul-rows-4 c = search needs
 
-slice-write-rows-3 : tie.Need-slice-write-rows-3
-slice-write-rows-3 c = simp length-set (omega arith)
+slice-write-rows-2 : tie.Need-slice-write-rows-2
+slice-write-rows-2 c = simp length-set (omega arith)
 
 mul-rows-5 : tie.Need-mul-rows-5
 mul-rows-5 c = search needs
@@ -40,6 +37,18 @@ add-rows-3 c = search needs
 
 mul-rows-6 : tie.Need-mul-rows-6
 mul-rows-6 c = search needs
+
+slice-write-rows-3 : tie.Need-slice-write-rows-3
+slice-write-rows-3 c = simp length-set (omega arith)
+
+mul-rows-7 : tie.Need-mul-rows-7
+mul-rows-7 c = search needs
+
+add-rows-4 : tie.Need-add-rows-4
+add-rows-4 c = search needs
+
+mul-rows-8 : tie.Need-mul-rows-8
+mul-rows-8 c = search needs
 
 slice-write-rows-4 : tie.Need-slice-write-rows-4
 slice-write-rows-4 c = simp length-set (omega arith)
@@ -55,17 +64,20 @@ put-row-spec =
     tie.close
     (tie.spec
     mul-rows
-    slice-write-rows
     add-rows
     mul-rows-2
-    slice-write-rows-2
+    slice-write-rows
     mul-rows-3
     add-rows-2
     mul-rows-4
-    slice-write-rows-3
+    slice-write-rows-2
     mul-rows-5
     add-rows-3
     mul-rows-6
+    slice-write-rows-3
+    mul-rows-7
+    add-rows-4
+    mul-rows-8
     slice-write-rows-4
     same-length
     returns)

@@ -1,9 +1,9 @@
--- `buffers::put_head` meets its contract: a store leaves the length. Assumes nothing.
+-- `heads::put_head` meets its contract: a store leaves the length. Assumes nothing.
 use native.Mathlib.Omega.{arith}
 use lib.ListN.{length-set}
 use borrow.Author.Needs.{needs}
-use Rattle.buffers.proofs.put_head.Statement.{statement}
-use Rattle.buffers.proofs.put_head.Tie as tie
+use Rattle.heads.proofs.put_head.Statement.{statement}
+use Rattle.heads.proofs.put_head.Tie as tie
 
 mul-at : tie.Need-mul-at
 mul-at c = search needs

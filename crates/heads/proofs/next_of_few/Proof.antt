@@ -1,12 +1,12 @@
--- `entries::next_of_few` meets its contract. The loop's invariant: what is to be found is found from bank i on. Assumes nothing.
+-- `heads::next_of_few` meets its contract. The loop's invariant: what is to be found is found from bank i on. Assumes nothing.
 use borrow.Author.Needs.{needs}
 use Prim.Native.Nat.{_≤_, _-_}
 use mathlib.Core.Path.{_≡_, refl}
 use native.Mathlib.Omega.{arith}
-use Rattle.entries.specs.Entries.{nextWaiting}
-use Rattle.entries.proofs.Waiting.{next-here, next-on, next-end}
-use Rattle.entries.proofs.next_of_few.Statement.{statement}
-use Rattle.entries.proofs.next_of_few.Tie as tie
+use Rattle.heads.specs.Heads.{nextWaiting}
+use Rattle.heads.proofs.Quiet.{next-here, next-on, next-end}
+use Rattle.heads.proofs.next_of_few.Statement.{statement}
+use Rattle.heads.proofs.next_of_few.Tie as tie
 
 abbrev Inv-loop : tie.InvT-loop
 Inv-loop heads b banks i₀ i = (b ≤ i) × (i ≤ banks) × (nextWaiting heads i (banks - i) ≡ nextWaiting heads b (banks - b))
