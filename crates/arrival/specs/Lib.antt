@@ -1,2 +1,1 @@
 pub mod Banks
-pub mod Known

@@ -1,11 +1,11 @@
 // What follows service in a cycle, delivery, retirement and arrival: it looks, plans, and then lands what is planned.
 ghost use mathlib.Core.Path.{_≡_};
-ghost use Prim.Native.Nat.{_*_, _<_};
+ghost use Prim.Native.Nat.{_<_};
 ghost use lib.ListN.{length};
 ghost use Rattle.setup.specs.Setup.{Ranges};
 ghost use Rattle.model.specs.Lent.{buffersIn};
+ghost use Rattle.model.specs.Range.{lengthsOf, GoodBuffers};
 ghost use Rattle.model.specs.Cycle.{delivered, newestLive, placedIf, givenUp, mergedPlan, planned, arrived, going, afterService};
-ghost use Rattle.arrival.specs.Known.{Fit};
 ghost use Rattle.arrival.specs.Banks.{EachBuffer};
 use map::Address;
 use model::Cycled;
@@ -22,7 +22,7 @@ use setup::Setup;
 
 // Looks at the row filled a delay ago.
 fn deliver(s: Setup, position: usize, rows: &[u32]) -> Delivery
-    requires { ⌜ Ranges s × (length (now rows) ≡ 4 * s .c) × (position < s .c) ⌝ }
+    requires { ⌜ Ranges s × (length (now rows) ≡ lengthsOf s .rows) × (position < s .c) ⌝ }
     ensures { λ d. ⌜ d ≡ delivered s position (now (rows .entry)) ⌝ }
 {
     let at = rings::back(s.c as usize, position, s.delta as usize);
@@ -31,7 +31,7 @@ fn deliver(s: Setup, position: usize, rows: &[u32]) -> Delivery
 
 // What the row filled C cycles ago places as it is given up: merging, a write that no newer live write replaces.
 fn give_up(s: Setup, position: usize, rows: &[u32]) -> Placing
-    requires { ⌜ Ranges s × (length (now rows) ≡ 4 * s .c) × (position < s .c) ⌝ }
+    requires { ⌜ Ranges s × (length (now rows) ≡ lengthsOf s .rows) × (position < s .c) ⌝ }
     ensures { λ p. ⌜ p ≡ givenUp s position (now (rows .entry)) ⌝ }
 {
     if s.mode != Setup::MERGING {
@@ -50,7 +50,7 @@ fn give_up(s: Setup, position: usize, rows: &[u32]) -> Placing
 
 // A merging read: it merges with the newest live row of its address, or places an entry.
 fn merge_read(s: Setup, position: u32, a: Address, rows: &[u32]) -> Plan
-    requires { ⌜ Ranges s × (length (now rows) ≡ 4 * s .c) × (position < s .c) ⌝ }
+    requires { ⌜ Ranges s × (length (now rows) ≡ lengthsOf s .rows) × (position < s .c) ⌝ }
     ensures { λ p. ⌜ p ≡ mergedPlan s position a (newestLive s position a (now (rows .entry))) (now (rows .entry)) ⌝ }
 {
     let Found::At(i) = lookup::newest_live(rows, s.c as usize, position as usize, a) else {
@@ -61,7 +61,7 @@ fn merge_read(s: Setup, position: u32, a: Address, rows: &[u32]) -> Plan
 
 // What the operation is to do.
 fn plan(s: Setup, position: u32, op: Operation, rows: &[u32]) -> Plan
-    requires { ⌜ Ranges s × (length (now rows) ≡ 4 * s .c) × (position < s .c) ⌝ }
+    requires { ⌜ Ranges s × (length (now rows) ≡ lengthsOf s .rows) × (position < s .c) ⌝ }
     ensures { λ p. ⌜ p ≡ planned s position op (now (rows .entry)) ⌝ }
 {
     match op {
@@ -98,7 +98,7 @@ fn arrive(
     entries: &mut [u32],
     heads: &mut [u32],
 ) -> bool
-    requires { ⌜ (length (now rows) ≡ 4 * s .c) × EachBuffer s (buffersIn (now entries) (now heads)) × (position < s .c) ⌝ }
+    requires { ⌜ (length (now rows) ≡ lengthsOf s .rows) × EachBuffer s (buffersIn (now entries) (now heads)) × (position < s .c) ⌝ }
     ensures { λ taken. ⌜ (taken, (now (rows .exit), buffersIn (now (entries .exit)) (now (heads .exit)))) ≡ arrived s position plan (now (rows .entry)) (buffersIn (now (entries .entry)) (now (heads .entry))) ⌝ }
 {
     let placing = plan.placing;
@@ -123,7 +123,7 @@ fn land(
     entries: &mut [u32],
     heads: &mut [u32],
 ) -> Cycled
-    requires { ⌜ Ranges s × (length (now rows) ≡ 4 * s .c) × EachBuffer s (buffersIn (now entries) (now heads)) × (t .turn < s .m) × (t .position < s .c) ⌝ }
+    requires { ⌜ Ranges s × (length (now rows) ≡ lengthsOf s .rows) × EachBuffer s (buffersIn (now entries) (now heads)) × (t .turn < s .m) × (t .position < s .c) ⌝ }
     ensures { λ r. ⌜ (r, (now (rows .exit), buffersIn (now (entries .exit)) (now (heads .exit)))) ≡ going s t plan delivery (now (rows .entry)) (placedIf s retiring (buffersIn (now (entries .entry)) (now (heads .entry)))) ⌝ }
 {
     if place_if(s, retiring, entries, heads) {
@@ -142,7 +142,7 @@ pub fn go_on(
     entries: &mut [u32],
     heads: &mut [u32],
 ) -> Cycled
-    requires { ⌜ Fit s (now rows) (now entries) (now heads) × (t .turn < s .m) × (t .position < s .c) ⌝ }
+    requires { ⌜ Ranges s × (length (now rows) ≡ lengthsOf s .rows) × GoodBuffers s (buffersIn (now entries) (now heads)) × (t .turn < s .m) × (t .position < s .c) ⌝ }
     ensures { λ r. ⌜ (r, (now (rows .exit), buffersIn (now (entries .exit)) (now (heads .exit)))) ≡ afterService s t op (now (rows .entry)) (buffersIn (now (entries .entry)) (now (heads .entry))) ⌝ }
 {
     let delivery = deliver(s, t.position as usize, rows);

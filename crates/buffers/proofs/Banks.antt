@@ -90,7 +90,7 @@ module _ (s : Setup) (e : Entry) (entries heads : List ℕ) (map : Map) (own : m
   place-buffer r = rw a r
 
   pub place-within : Buffer s (bankOf (mapOf s) (e .cell)) (buffersIn entries heads) → 2 * b + 2 ≤ length heads
-  place-within r = place-buffer r .head .head-within
+  place-within r = place-buffer r .head .head-there
 
   module _ (count : ℕ) (n : count ≡ countOf heads b) where
     pub place-most : Buffer s (bankOf (mapOf s) (e .cell)) (buffersIn entries heads) → count ≤ s .k

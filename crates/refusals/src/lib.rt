@@ -1,14 +1,15 @@
 // What the calls look at before they change anything, and what a refusal, a question and a fresh start return.
 ghost use mathlib.Core.Path.{_≡_};
-ghost use Prim.Native.Nat.{_*_};
 ghost use lib.ListN.{length};
 ghost use Rattle.setup.specs.Setup.{Ranges};
 ghost use Rattle.model.specs.Lent.{buffersIn, lent};
-ghost use Rattle.model.specs.Range.{lengthsOf, lengthsOk, numbersOk};
+ghost use Rattle.model.specs.Range.{lengthsOf, lengthsOk, numbersOk, Room};
 ghost use Rattle.model.specs.Calls.{exactOf, standingOf, addressOk, offeredOf, refusedBy, freshState, tellOf};
-ghost use Rattle.buffers.specs.Bank.{Room};
 use model::Cycled;
+use model::Entry;
+use model::Head;
 use model::Lengths;
+use model::Row;
 use model::Standing;
 use model::State;
 use model::Waiting;
@@ -26,9 +27,9 @@ pub fn lengths(s: Setup) -> Lengths
     let banks = s.banks();
     Lengths {
         memory: s.words(),
-        rows: 4 * (s.c as u32),
-        entries: 4 * (banks * (s.k as u32)),
-        heads: 2 * banks,
+        rows: (Row::NUMBERS as u32) * (s.c as u32),
+        entries: (Entry::NUMBERS as u32) * (banks * (s.k as u32)),
+        heads: (Head::NUMBERS as u32) * banks,
     }
 }
 
@@ -61,7 +62,7 @@ pub fn exact(setup: Setup, memory: &[u32], rows: &[u32], entries: &[u32], heads:
 
 // Whether every number in state, row or entry is in the range its meaning allows.
 fn numbers_ok(s: Setup, t: State, rows: &[u32], entries: &[u32], heads: &[u32]) -> bool
-    requires { ⌜ Ranges s × (length (now rows) ≡ 4 * s .c) × Room s (buffersIn (now entries) (now heads)) ⌝ }
+    requires { ⌜ Ranges s × (length (now rows) ≡ lengthsOf s .rows) × Room s (buffersIn (now entries) (now heads)) ⌝ }
     ensures { λ r. ⌜ r ≡ numbersOk s t (now (rows .entry)) (buffersIn (now (entries .entry)) (now (heads .entry))) ⌝ }
 {
     let turn = (t.turn < s.m as u32) & (t.position < s.c as u32);
@@ -153,7 +154,7 @@ pub fn tell(s: Setup, bank: u32, heads: &[u32]) -> Waiting
     if bank < s.banks() {
         return Waiting {
             answer: answers::DONE,
-            count: buffers::count_at(heads, bank as usize),
+            count: heads::count_at(heads, bank as usize),
         };
     }
     Waiting {

@@ -1,11 +1,9 @@
 -- `arrival::go_on` meets its contract: what is looked at and planned lands. The buffers of a good room are each as asked for. Assumes nothing.
-use Prim.Native.Nat.{ℕ, _-_, _*_, _<_}
-use native.Mathlib.Omega.{arith}
+use Prim.Native.Nat.{ℕ, _-_}
 use mathlib.Core.Path.{_≡_}
-use mathlib.Core.Bool.{Bool}
 use mathlib.Core.List.{List}
 use Rattle.setup.specs.declared.Setup.{Setup}
-use Rattle.setup.specs.Setup.{banksOf}
+use Rattle.setup.specs.Setup.{Ranges}
 use Rattle.port.specs.declared.Operation.{Operation}
 use Rattle.port.specs.declared.Delivery.{Delivery}
 use Rattle.model.specs.declared.State.{State}
@@ -14,29 +12,15 @@ use Rattle.model.specs.declared.Plan.{Plan}
 use Rattle.model.specs.declared.Cycled.{Cycled}
 use Rattle.model.specs.Lent.{Buffers, buffersIn}
 use Rattle.model.specs.Cycle.{delivered, placedIf, givenUp, retired, planned, going, afterService}
-use Rattle.model.proofs.Range.{head-oldest, head-count}
-use Rattle.rings.proofs.Rings.{part-within}
-use Rattle.buffers.specs.Bank.{Head, Buffer}
+use Rattle.model.specs.Range.{GoodBuffers}
+use Rattle.buffers.proofs.Banks.{good-buffer}
 use Rattle.arrival.specs.Banks.{EachBuffer}
-use Rattle.arrival.specs.Known.{Fit}
 use borrow.Author.Needs.{needs}
 use Rattle.arrival.proofs.go_on.Statement.{statement}
 use Rattle.arrival.proofs.go_on.Tie as tie
 
-fit-each : (s : Setup) (rows entries heads : List ℕ) → Fit s rows entries heads → EachBuffer s (buffersIn entries heads)
-fit-each s rows entries heads f = record { of = buffer }
-  where
-    buffer : (b : ℕ) → b < banksOf s → Buffer s b (buffersIn entries heads)
-    buffer b h =
-        record {
-          head = record {
-            sizes = f .exact .ranges .sizes;
-            head-within = omega (arith, f .exact .heads-long);
-            oldest-below = head-oldest s heads b (f .heads-ok b h);
-            count-most = head-count s heads b (f .heads-ok b h);
-          };
-          part-within = omega (arith, f .exact .entries-long, part-within b (banksOf s) (s .k) h);
-        }
+good-each : (s : Setup) (entries heads : List ℕ) → Ranges s → GoodBuffers s (buffersIn entries heads) → EachBuffer s (buffersIn entries heads)
+good-each s entries heads r g = record { of = good-buffer s entries heads r g }
 
 planned-lands : (s : Setup) (t : State) (op : Operation) (rows : List ℕ) (q : Buffers) (d : Delivery) (g : Placing) (p : Plan) (w : Cycled × (List ℕ × Buffers))
     → d ≡ delivered s (t .position) rows → g ≡ givenUp s (t .position) rows → p ≡ planned s (t .position) op rows → w ≡ going s t p d rows (placedIf s g q)
@@ -60,7 +44,7 @@ plan-requires : tie.Need-plan-requires
 plan-requires c κs = search needs
 
 land-requires : tie.Need-land-requires
-land-requires c κs = (search needs, search needs, search (fit-each), search needs, search needs)
+land-requires c κs = (search needs, search needs, search (good-each), search needs, search needs)
 
 same-length : tie.Need-same-length
 same-length c = search needs

@@ -19,12 +19,13 @@ use Rattle.model.specs.declared.Placing.{Placing}
 use Rattle.model.specs.declared.Placing.the-variants.{NoEntry, OneEntry}
 use Rattle.model.specs.declared.Plan.{Plan}
 use Rattle.model.specs.declared.Cycled.{Cycled}
-use Rattle.model.specs.Lent.{Buffers, oldestOf, countOf}
+use Rattle.model.specs.Lent.{Buffers, headNumbers, oldestOf, countOf}
 use Rattle.model.specs.Cycle.{placedAt, placedIf, arrived, nextState, stoppedState, cycled, going}
 use Rattle.choice.proofs.Tests.{same-or-not}
 use Rattle.model.proofs.Lent.{length-put-entry, length-put-head, oldest-put-same, oldest-put-other, count-put-same, count-put-other}
 use Rattle.model.proofs.Buffers.{nextPlace, placed-full, placed-room}
-use Rattle.buffers.specs.Bank.{Head, Buffer}
+use Rattle.heads.specs.Heads.{GoodHead}
+use Rattle.buffers.specs.Bank.{Buffer}
 use Rattle.arrival.specs.Banks.{EachBuffer}
 use borrow.Author.Needs.{needs}
 use Rattle.arrival.proofs.land.Statement.{statement}
@@ -44,24 +45,24 @@ module _ (s : Setup) (q : Buffers) (each : EachBuffer s q) where
     long : length heads ≡ length (q .heads)
     long = length-put-head (q .heads) b (oldestOf (q .heads) b) (countOf (q .heads) b + 1)
 
-    same-bank : j ≡ b → Head s j heads
+    same-bank : j ≡ b → GoodHead s j heads
     same-bank p =
-        let x : Head s b (q .heads) = each .of b (bank-below (mapOf s) (e .cell)) .head in
-        let w : 2 * b + 1 < length (q .heads) = omega (arith, x .head-within) in
-        subst (λ (i : ℕ). Head s i heads) (sym p)
+        let x : GoodHead s b (q .heads) = each .of b (bank-below (mapOf s) (e .cell)) .head in
+        let w : headNumbers * b + 1 < length (q .heads) = omega (arith, x .head-there) in
+        subst (λ (i : ℕ). GoodHead s i heads) (sym p)
         (record {
           sizes = x .sizes;
-          head-within = omega (arith, x .head-within, long);
+          head-there = omega (arith, x .head-there, long);
           oldest-below = omega (arith, x .oldest-below, oldest-put-same (q .heads) b (oldestOf (q .heads) b) (countOf (q .heads) b + 1) w);
           count-most = omega (arith, x .count-most, n, count-put-same (q .heads) b (oldestOf (q .heads) b) (countOf (q .heads) b + 1) w);
         })
 
-    other-bank : (j ≡ b → ⊥) → Head s j heads
+    other-bank : (j ≡ b → ⊥) → GoodHead s j heads
     other-bank p =
-        let x : Head s j (q .heads) = each .of j h .head in
+        let x : GoodHead s j (q .heads) = each .of j h .head in
         record {
           sizes = x .sizes;
-          head-within = omega (arith, x .head-within, long);
+          head-there = omega (arith, x .head-there, long);
           oldest-below = omega (arith, x .oldest-below, oldest-put-other (q .heads) b (oldestOf (q .heads) b) (countOf (q .heads) b + 1) j p);
           count-most = omega (arith, x .count-most, count-put-other (q .heads) b (oldestOf (q .heads) b) (countOf (q .heads) b + 1) j p);
         }

@@ -31,8 +31,8 @@ module _ (g : Setup) (t : State) (memory rows entries heads : List ℕ) (k : Sta
   unfolding freshIn
   fresh-done s z t₀ r h er eh et =
       let l : lengthsOk s (lent memory rows entries heads) ≡ true = exact-lengths g s (lent memory rows entries heads) ek z in
-      let m : length rows ≡ 4 * s .c = search (and-l, and-r, eqb-true) depth 12 in
-      let n : length heads ≡ 2 * banksOf s = search (and-l, and-r, eqb-true) depth 12 in
+      let m : length rows ≡ lengthsOf s .rows = search (and-l, and-r, eqb-true) depth 12 in
+      let n : length heads ≡ lengthsOf s .heads = search (and-l, and-r, eqb-true) depth 12 in
       rw (← ek, z, er, eh, et, m, n)
 
 exact-requires : tie.Need-exact-requires

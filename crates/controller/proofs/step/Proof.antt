@@ -2,34 +2,30 @@
 use Prim.Native.Nat.{ℕ}
 use mathlib.Core.Path.{_≡_}
 use mathlib.Core.List.{List}
+use lib.ListN.{length}
 use borrow.Author.Needs.{needs}
 use borrow.Author.Tests.{eq-eqb, ne-eqb}
 use Rattle.answers.specs.Answers.{done}
 use Rattle.setup.specs.declared.Setup.{Setup}
+use Rattle.setup.specs.Setup.{Ranges}
 use Rattle.port.specs.declared.Operation.{Operation}
 use Rattle.model.specs.declared.State.{State}
 use Rattle.model.specs.declared.Cycled.{Cycled}
 use Rattle.model.specs.Lent.{Lent, lent, buffersIn}
 use Rattle.model.specs.Cycle.{served, afterService, passed}
-use Rattle.model.specs.Range.{Good}
+use Rattle.model.specs.Range.{lengthsOf, GoodBuffers, Good}
 use Rattle.model.specs.Calls.{offeredOf, refusedBy, stepOf}
 use Rattle.model.proofs.Service.{served-at-good}
-use Rattle.arrival.specs.Known.{Fit}
 use Rattle.controller.proofs.step.Statement.{statement}
 use Rattle.controller.proofs.step.Tie as tie
 
-good-fit : (s : Setup) (memory rows entries heads : List ℕ) → Good s (lent memory rows entries heads) → Fit s rows entries heads
-good-fit s memory rows entries heads g =
-    record {
-      exact = record { ranges = g .ranges; rows-long = g .rows-long; entries-long = g .entries-long; heads-long = g .heads-long };
-      heads-ok = g .heads-ok;
-      entries-ok = g .entries-ok;
-    }
-
-fit-served : (s : Setup) (turn : ℕ) (memory rows entries heads memory′ rows′ heads′ : List ℕ) → Good s (lent memory rows entries heads)
-    → lent memory′ rows′ entries heads′ ≡ served s turn (lent memory rows entries heads) → Fit s rows′ entries heads′
-fit-served s turn memory rows entries heads memory′ rows′ heads′ g e =
-    good-fit s memory′ rows′ entries heads′ (served-at-good s turn (lent memory rows entries heads) g e)
+-- what is left by service is good, so the rest of the cycle may go on
+served-good : (s : Setup) (turn : ℕ) (memory rows entries heads memory′ rows′ heads′ : List ℕ) → Good s (lent memory rows entries heads)
+    → lent memory′ rows′ entries heads′ ≡ served s turn (lent memory rows entries heads)
+    → Ranges s × (length rows′ ≡ lengthsOf s .rows) × GoodBuffers s (buffersIn entries heads′)
+served-good s turn memory rows entries heads memory′ rows′ heads′ g e =
+    let h : Good s (lent memory′ rows′ entries heads′) = served-at-good s turn (lent memory rows entries heads) g e in
+    (h .ranges, h .rows .long, h .buffers)
 
 -- n is what the test of 7 and 4 answered
 module _ (s : Setup) (t : State) (op : Operation) (n : ℕ) (en : n ≡ offeredOf s t op) where
@@ -60,7 +56,8 @@ go-on-requires : tie.Need-go-on-requires
 go-on-requires c κs =
     let served = c .before .before .before .before .before .before .before .before .before in
     let start = served .before .before .before .before .before .before .before .before .before .before .before in
-    (fit-served _ _ _ _ _ _ _ _ _ (start .pre .good) (served .serve .ensures), start .pre .turn, start .pre .position)
+    let g = served-good _ _ _ _ _ _ _ _ _ (start .pre .good) (served .serve .ensures) in
+    (g .0, g .1, g .2, start .pre .turn, start .pre .position)
 
 same-length : tie.Need-same-length
 same-length c = search needs

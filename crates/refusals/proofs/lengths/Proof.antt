@@ -5,6 +5,7 @@ use mathlib.Core.Path.{_≡_}
 use native.Mathlib.Omega.{arith}
 use Rattle.setup.specs.declared.Setup.{Setup}
 use Rattle.setup.specs.Setup.{Ranges, wordsOf, banksOf}
+use Rattle.model.specs.Lent.{rowNumbers, entryNumbers, headNumbers}
 use Rattle.model.specs.Range.{lengthsOf}
 use Rattle.setup.proofs.Ranges.{banks-most, places-most}
 use Rattle.refusals.proofs.lengths.Statement.{statement}
@@ -14,14 +15,14 @@ module _ (s : Setup) (b : ℕ) (g : Ranges s) (e : b ≡ banksOf s) where
   places-fit : b * s .k < 2 ^ 32
   places-fit = rw e (let l = places-most s (g .sizes) in omega arith)
 
-  numbers-fit : 4 * (b * s .k) < 2 ^ 32
+  numbers-fit : entryNumbers * (b * s .k) < 2 ^ 32
   numbers-fit = rw e (let l = places-most s (g .sizes) in omega arith)
 
-  heads-fit : 2 * b < 2 ^ 32
+  heads-fit : headNumbers * b < 2 ^ 32
   heads-fit = let l = banks-most s (g .sizes) in omega arith
 
 sized : (s : Setup) (n b : ℕ) → n ≡ wordsOf s → b ≡ banksOf s
-    → record { memory = n; rows = 4 * s .c; entries = 4 * (b * s .k); heads = 2 * b } ≡ lengthsOf s
+    → record { memory = n; rows = rowNumbers * s .c; entries = entryNumbers * (b * s .k); heads = headNumbers * b } ≡ lengthsOf s
 sized s n b en eb = rw (en, eb)
 
 banks-requires : tie.Need-banks-requires

@@ -1,5 +1,5 @@
 -- `refusals::standing` meets its contract: each return knows what setup, lengths and numbers answered. Assumes nothing.
-use Prim.Native.Nat.{ℕ, _*_}
+use Prim.Native.Nat.{ℕ}
 use mathlib.Core.Bool.{Bool, true, false}
 use mathlib.Core.List.{List}
 use mathlib.Core.Path.{_≡_}
@@ -13,10 +13,9 @@ use Rattle.model.specs.declared.State.{State}
 use Rattle.model.specs.declared.Standing.{Standing}
 use Rattle.model.specs.declared.Standing.the-variants.{Sound, Refusal}
 use Rattle.model.specs.Lent.{Lent, lent, buffersIn}
-use Rattle.model.specs.Range.{lengthsOk, numbersOk}
+use Rattle.model.specs.Range.{lengthsOf, lengthsOk, numbersOk, Room}
 use Rattle.model.specs.Calls.{exactOf, standingIn, standingOf}
 use Rattle.model.proofs.Calls.{exact-ranges, exact-lengths}
-use Rattle.buffers.specs.Bank.{Room}
 use Rattle.refusals.proofs.standing.Statement.{statement}
 use Rattle.refusals.proofs.standing.Tie as tie
 
@@ -36,7 +35,7 @@ module _ (g : Setup) (t : State) (x : Lent) (r : Standing) (er : r ≡ exactOf g
     standing-state f = rw (← er, h, ← eb, f)
 
 module _ (g : Setup) (memory rows entries heads : List ℕ) (r : Standing) (er : r ≡ exactOf g (lent memory rows entries heads)) (s : Setup) (h : r ≡ Sound s) where
-  rows-exact : length rows ≡ 4 * s .c
+  rows-exact : length rows ≡ lengthsOf s .rows
   rows-exact =
       let l : lengthsOk s (lent memory rows entries heads) ≡ true = exact-lengths g s (lent memory rows entries heads) er h in
       search (and-l, and-r, eqb-true) depth 12
@@ -45,7 +44,6 @@ module _ (g : Setup) (memory rows entries heads : List ℕ) (r : Standing) (er :
   buffers-exact =
       let l : lengthsOk s (lent memory rows entries heads) ≡ true = exact-lengths g s (lent memory rows entries heads) er h in
       record {
-        sizes = exact-ranges g s (lent memory rows entries heads) er h .sizes;
         entries-long = search (and-l, and-r, eqb-true) depth 12;
         heads-long = search (and-l, and-r, eqb-true) depth 12;
       }
