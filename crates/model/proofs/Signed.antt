@@ -1,8 +1,8 @@
 -- Demand 2's promises, each under its own name: from `Follows`, over every list of offered operations. Assumes nothing.
 use Prim.Native.Nat.{ℕ, suc, _+_, _-_, _%_, _^_, _<_}
 use mathlib.Core.Path.{_≡_, refl, sym, ap, subst, _∙_}
-use mathlib.Core.Logic.{_⊎_, inl, inr, _↔_}
-use mathlib.Core.Bool.{Bool, true, false}
+use mathlib.Core.Logic.{_⊎_, inl, inr, _↔_, _≢_}
+use mathlib.Core.Bool.{Bool, true, false, true≢false}
 use mathlib.Core.List.{List, [], _∷_, _++_, append-assoc}
 use native.Mathlib.Omega.{arith}
 use lib.Dec.{eqb}
@@ -29,8 +29,8 @@ use Rattle.model.specs.Cycle.{passed}
 use Rattle.model.specs.Calls.{addressOk, standingOf, offeredOf, refused, stepOf, cycleIn, told, tellOf, waitingIn, waitingOf}
 use Rattle.model.specs.Runs.{Machine, replyOf, replies, after, afterAll, fresh}
 use Rattle.model.specs.Sram.{sram, due}
-use Rattle.model.specs.Ledger.{Ledger, ledger, freshLedger, waits, serviced, retires, arrives, full, given, noted, replied, entered}
-use Rattle.model.specs.Promises.{Starts, reached, startWord, replyAt, promised, booked, ledgerAt, passing, historyFrom, history, Passes, retiringAt, arrivingAt, Emulates, ReadLeaves, NothingElse, NeverUnready, StopsExactly, DropsExactly, NeverBadState, TellsWaiting, RefusesWhole, StampsCycles, TurnsApart}
+use Rattle.model.specs.Ledger.{Ledger, freshLedger, waits, serviced, retires, arrives, full, ended, entered}
+use Rattle.model.specs.Promises.{Starts, reached, startWord, replyAt, promised, booked, ledgerAt, passing, historyFrom, history, Passes, Emulates, ReadLeaves, NothingElse, NeverUnready, StopsExactly, DropsExactly, NeverBadState, TellsWaiting, RefusesWhole, StampsCycles, TurnsApart}
 use Rattle.theory.proofs.Concrete.{Legal, CSt, CRun, on, off, reachedC}
 use Rattle.theory.proofs.Machine.{Run}
 use Rattle.theory.proofs.Machine as M
@@ -43,7 +43,7 @@ use Rattle.model.proofs.Config.{configOf, legal}
 use Rattle.model.proofs.Shown.{shown}
 use Rattle.model.proofs.Shows.{waiting-shown, on-shown}
 use Rattle.model.proofs.Books.{BooksRun, books-waits, books-length}
-use Rattle.model.proofs.Entered.{entered-by, entered-past, way, way-delivers, way-stamps, way-passes, booked-append}
+use Rattle.model.proofs.Entered.{entered-by, entered-past, retiredTo, Way, takes, drops, halts, way, way-delivers, way-stamps, way-passes, booked-append}
 use Rattle.model.proofs.Follows.{Follows, follows-fresh, follows-reply, follows-after}
 
 ------------------------------------------------------------------------
@@ -94,45 +94,17 @@ pub emulates : Emulates
 emulates g w ops h = replies-run g w h ops
 
 ------------------------------------------------------------------------
--- One call of the ledger, by its tests
-
--- what the tests for the stop mark, the address and the two places answer
-abbrev answerBy : Bool → Bool → Bool → Bool → ℕ
-answerBy h a r f = pick h stopped (pick a (pick r stopping (pick f dropped done)) badAddress)
+-- One call of the ledger, by its answer
 
 module _ (s : Setup) (start : Address → ℕ) (op : Operation) (l : Ledger) where
   abbrev l₁ : Ledger
   l₁ = serviced s l
 
-  abbrev l₂ : Ledger
-  l₂ = given (retires s l₁) l₁
-
   abbrev d : Delivery
   d = due start (drop (s .delta - 1) (l .past))
 
-  abbrev enteredBy : Bool → Bool → Bool → Bool → Reply × Ledger
-  enteredBy h a r f =
-      pick h (replied stopped None 0, l)
-      (pick a
-      (pick r (replied stopping d (length (l .past) % 2 ^ 32), ledger (l₁ .past) (l₁ .placed) (l₁ .served) true)
-      (pick f (replied dropped d (length (l .past) % 2 ^ 32), noted Idle l₂) (replied done d (length (l .past) % 2 ^ 32), noted op (given (arrives s op l₂) l₂))))
-      (replied badAddress None 0, l))
-
-  pub entered-tests : entered s start op l ≡ enteredBy (l .halted) (addressOk s op) (full s (retires s l₁) l₁) (full s (arrives s op l₂) l₂)
-  unfolding entered
-  entered-tests = refl
-
-  by-answer : (h a r f : Bool) → enteredBy h a r f .0 .answer ≡ answerBy h a r f
-  by-answer true a r f = refl
-  by-answer false false r f = refl
-  by-answer false true true f = refl
-  by-answer false true false true = refl
-  by-answer false true false false = refl
-
-  pub entered-answer : entered s start op l .0 .answer ≡ answerBy (l .halted) (addressOk s op) (full s (retires s l₁) l₁) (full s (arrives s op l₂) l₂)
-  entered-answer =
-      ap (λ (e : Reply × Ledger). e .0 .answer) entered-tests
-      ∙ by-answer (l .halted) (addressOk s op) (full s (retires s l₁) l₁) (full s (arrives s op l₂) l₂)
+  abbrev y : Way s op d (length (l .past) % 2 ^ 32) l₁ (ended s op d (length (l .past) % 2 ^ 32) l₁)
+  y = way s op d (length (l .past) % 2 ^ 32) l₁
 
   -- a call that reaches its cycle delivers what is due, with the cycle's stamp; any other none
   Tells : Reply → Type 0
@@ -142,47 +114,48 @@ module _ (s : Setup) (start : Address → ℕ) (op : Operation) (l : Ledger) whe
   unfolding Tells
   entered-tells =
       entered-by s start op l (λ e. Tells (e .0)) (λ h. inr (inl refl, refl)) (λ h k. inr (inr refl, refl))
-      (λ h k.
-      let y = way s op d (length (l .past) % 2 ^ 32) l₁ in
-      inl (way-passes s op _ _ l₁ _ y, (way-delivers s op _ _ l₁ _ y, way-stamps s op _ _ l₁ _ y)))
+      (λ h k. inl (way-passes s op _ _ l₁ _ y, (way-delivers s op _ _ l₁ _ y, way-stamps s op _ _ l₁ _ y)))
 
-stops-by : (h a r f : Bool) → (answerBy h a r f ≡ stopping) ↔ ((h ≡ false) × (a ≡ true) × (r ≡ true))
-stops-by true a r f = (λ e. absurd (omega arith), λ p. let z : _≡_ {A = ℕ} 0 1 = cc in absurd (omega arith))
-stops-by false false r f = (λ e. absurd (omega arith), λ p. let z : _≡_ {A = ℕ} 0 1 = cc in absurd (omega arith))
-stops-by false true true f = (λ e. (refl, refl, refl), λ p. refl)
-stops-by false true false true = (λ e. absurd (omega arith), λ p. let z : _≡_ {A = ℕ} 0 1 = cc in absurd (omega arith))
-stops-by false true false false = (λ e. absurd (omega arith), λ p. let z : _≡_ {A = ℕ} 0 1 = cc in absurd (omega arith))
+  -- an answer that only a reached cycle gives: exactly when the cycle is reached and P holds
+  exactly : (n : ℕ) → stopped ≢ n → badAddress ≢ n → (P : Type 0)
+      → ((e : Reply × Ledger) → Way s op d (length (l .past) % 2 ^ 32) l₁ e → (e .0 .answer ≡ n) ↔ P)
+      → (entered s start op l .0 .answer ≡ n) ↔ ((l .halted ≡ false) × (addressOk s op ≡ true) × P)
+  exactly n f g P w =
+      entered-by s start op l (λ e. (e .0 .answer ≡ n) ↔ ((l .halted ≡ false) × (addressOk s op ≡ true) × P))
+      (λ h. (λ z. absurd (f z), λ p. absurd (true≢false (sym h ∙ p .0))))
+      (λ h k. (λ z. absurd (g z), λ p. absurd (true≢false (sym (p .1) ∙ k))))
+      (λ h k. (λ z. (h, k, w _ y .0 z), λ p. w _ y .1 (p .2)))
 
-drops-by : (h a r f : Bool) → (answerBy h a r f ≡ dropped) ↔ ((h ≡ false) × (a ≡ true) × (r ≡ false) × (f ≡ true))
-drops-by true a r f = (λ e. absurd (omega arith), λ p. let z : _≡_ {A = ℕ} 0 1 = cc in absurd (omega arith))
-drops-by false false r f = (λ e. absurd (omega arith), λ p. let z : _≡_ {A = ℕ} 0 1 = cc in absurd (omega arith))
-drops-by false true true f = (λ e. absurd (omega arith), λ p. let z : _≡_ {A = ℕ} 0 1 = cc in absurd (omega arith))
-drops-by false true false true = (λ e. (refl, refl, refl, refl), λ p. refl)
-drops-by false true false false = (λ e. absurd (omega arith), λ p. let z : _≡_ {A = ℕ} 0 1 = cc in absurd (omega arith))
+  stops-by : (e : Reply × Ledger) → Way s op d (length (l .past) % 2 ^ 32) l₁ e → (e .0 .answer ≡ stopping) ↔ (full s (retires s l₁) l₁ ≡ true)
+  stops-by e (takes p q) = (λ z. absurd (omega arith), λ r. absurd (true≢false (sym r ∙ p)))
+  stops-by e (drops p q) = (λ z. absurd (omega arith), λ r. absurd (true≢false (sym r ∙ p)))
+  stops-by e (halts p) = (λ z. p, λ r. refl)
+
+  drops-by : (e : Reply × Ledger) → Way s op d (length (l .past) % 2 ^ 32) l₁ e
+      → (e .0 .answer ≡ dropped) ↔ ((full s (retires s l₁) l₁ ≡ false) × (full s (arrives s op (retiredTo s l₁)) (retiredTo s l₁) ≡ true))
+  drops-by e (takes p q) = (λ z. absurd (omega arith), λ r. absurd (true≢false (sym (r .1) ∙ q)))
+  drops-by e (drops p q) = (λ z. (p, q), λ r. refl)
+  drops-by e (halts p) = (λ z. absurd (omega arith), λ r. absurd (true≢false (sym p ∙ r .0)))
 
 ------------------------------------------------------------------------
 -- Drops and stops
 
 module _ (g : Setup) (w : Machine) (ops : List Operation) (op : Operation) (h : Starts g w) where
-  abbrev l : Ledger
-  l = ledgerAt g w ops
-
-  answer-run : replyAt g w ops op .answer
-      ≡ answerBy (l .halted) (addressOk (withDefaults g) op)
-      (full (withDefaults g) (retires (withDefaults g) (retiringAt g w ops)) (retiringAt g w ops))
-      (full (withDefaults g) (arrives (withDefaults g) op (arrivingAt g w ops)) (arrivingAt g w ops))
-  answer-run = ap (λ (r : Reply). r .answer) (reply-run g w h ops op) ∙ entered-answer (withDefaults g) (startWord g w) op l
-
-  tells-run : Tells (withDefaults g) (startWord g w) op l (replyAt g w ops op)
-  tells-run = subst (Tells (withDefaults g) (startWord g w) op l) (sym (reply-run g w h ops op)) (entered-tells (withDefaults g) (startWord g w) op l)
+  tells-run : Tells (withDefaults g) (startWord g w) op (ledgerAt g w ops) (replyAt g w ops op)
+  tells-run = subst (Tells (withDefaults g) (startWord g w) op (ledgerAt g w ops)) (sym (reply-run g w h ops op)) (entered-tells (withDefaults g) (startWord g w) op (ledgerAt g w ops))
 
 pub stops-exactly : StopsExactly
 stops-exactly g w ops op h =
-    rw (answer-run g w ops op h)
-    (stops-by _ _ _ (full (withDefaults g) (arrives (withDefaults g) op (arrivingAt g w ops)) (arrivingAt g w ops)))
+    rw (reply-run g w h ops op)
+    (exactly (withDefaults g) (startWord g w) op (ledgerAt g w ops) stopping (λ z. omega arith) (λ z. omega arith) _
+    (stops-by (withDefaults g) (startWord g w) op (ledgerAt g w ops)))
 
 pub drops-exactly : DropsExactly
-drops-exactly g w ops op h = rw (answer-run g w ops op h) (drops-by _ _ _ _)
+drops-exactly g w ops op h =
+    let x =
+    exactly (withDefaults g) (startWord g w) op (ledgerAt g w ops) dropped (λ z. omega arith) (λ z. omega arith) _
+    (drops-by (withDefaults g) (startWord g w) op (ledgerAt g w ops)) in
+    rw (reply-run g w h ops op) (λ z. let p = x .0 z in (p .0, p .1, p .2 .0, p .2 .1), λ p. x .1 (p .0, p .1, (p .2, p .3)))
 
 ------------------------------------------------------------------------
 -- What leaves
