@@ -12,7 +12,6 @@ use Rattle.setup.specs.Setup.{Sizes, Ranges, mapOf, banksOf}
 use Rattle.setup.specs.declared.Setup.{Setup}
 use Rattle.map.specs.Map.{bankOf}
 use Rattle.map.specs.declared.Map.{Map}
-use Rattle.map.proofs.Split.{bank-below}
 use Rattle.model.proofs.Buffers.{placed-full, placed-room}
 use Rattle.model.proofs.Range.{head-oldest, head-count}
 use Rattle.rings.proofs.Rings.{onward-below, part-within}
@@ -21,7 +20,7 @@ use Rattle.rings.specs.Places.{onward}
 use Rattle.model.specs.Lent.{Buffers, entryNumbers, buffersIn, entryWith, entryAt, putEntry, oldestOf, countOf, putHead}
 use Rattle.model.specs.Range.{headOk, Room, GoodBuffers}
 use Rattle.model.specs.declared.Entry.{Entry}
-use Rattle.heads.specs.Heads.{GoodHead}
+use Rattle.heads.specs.Heads.{HeadThere, GoodHead}
 use Rattle.buffers.specs.Bank.{Buffer}
 use Rattle.buffers.proofs.Parts.{four-part, put-part}
 
@@ -42,10 +41,6 @@ module _ (s : Setup) (entries heads : List ℕ) where
 
     pub good-head : (b : ℕ) → b < banksOf s → GoodHead s b heads
     good-head b l = good-buffer b l .head
-
-    -- the bank of any cell is one of the B
-    pub good-place : (e : Entry) → Buffer s (bankOf (mapOf s) (e .cell)) (buffersIn entries heads)
-    good-place e = good-buffer (bankOf (mapOf s) (e .cell)) (bank-below (mapOf s) (e .cell))
 
 ------------------------------------------------------------------------
 -- What they leave
@@ -89,7 +84,7 @@ module _ (s : Setup) (e : Entry) (entries heads : List ℕ) (map : Map) (own : m
   pub place-buffer : Buffer s (bankOf (mapOf s) (e .cell)) (buffersIn entries heads) → Buffer s b (buffersIn entries heads)
   place-buffer r = rw a r
 
-  pub place-within : Buffer s (bankOf (mapOf s) (e .cell)) (buffersIn entries heads) → 2 * b + 2 ≤ length heads
+  pub place-within : Buffer s (bankOf (mapOf s) (e .cell)) (buffersIn entries heads) → HeadThere b heads
   place-within r = place-buffer r .head .head-there
 
   module _ (count : ℕ) (n : count ≡ countOf heads b) where

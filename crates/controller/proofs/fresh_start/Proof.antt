@@ -1,5 +1,5 @@
 -- `controller::fresh_start` meets its contract: each return knows what the test of 1 and 2 answered. Assumes nothing.
-use Prim.Native.Nat.{ℕ, _*_}
+use Prim.Native.Nat.{ℕ}
 use mathlib.Core.Path.{_≡_}
 use mathlib.Core.Bool.{true}
 use mathlib.Core.List.{List}
@@ -8,13 +8,12 @@ use borrow.Author.Needs.{needs}
 use borrow.Author.Tests.{eqb-true}
 use Rattle.answers.specs.Answers.{done}
 use Rattle.setup.specs.declared.Setup.{Setup}
-use Rattle.setup.specs.Setup.{banksOf}
 use Rattle.setup.proofs.Ranges.{and-l, and-r}
 use Rattle.model.specs.declared.State.{State}
 use Rattle.model.specs.declared.Standing.{Standing}
 use Rattle.model.specs.declared.Standing.the-variants.{Sound, Refusal}
 use Rattle.model.specs.Lent.{lent}
-use Rattle.model.specs.Range.{lengthsOk}
+use Rattle.model.specs.Range.{lengthsOf, lengthsOk}
 use Rattle.model.specs.Calls.{exactOf, freshState, started, freshIn, freshOf}
 use Rattle.model.proofs.Calls.{exact-lengths}
 use Rattle.controller.proofs.fresh_start.Statement.{statement}
