@@ -4,8 +4,7 @@ use Prim.Native.Nat.{ℕ, _*_, _^_, _<_}
 use mathlib.Core.Path.{_≡_}
 use native.Mathlib.Omega.{arith}
 use Rattle.setup.specs.declared.Setup.{Setup}
-use Rattle.setup.specs.Setup.{Ranges, wordsOf, banksOf}
-use Rattle.model.specs.Range.{lengthsOf}
+use Rattle.setup.specs.Setup.{Ranges, banksOf}
 use Rattle.setup.proofs.Ranges.{banks-most, places-most}
 use Rattle.refusals.proofs.lengths.Statement.{statement}
 use Rattle.refusals.proofs.lengths.Tie as tie
@@ -19,10 +18,6 @@ module _ (s : Setup) (b : ℕ) (g : Ranges s) (e : b ≡ banksOf s) where
 
   heads-fit : 2 * b < 2 ^ 32
   heads-fit = let l = banks-most s (g .sizes) in omega arith
-
-sized : (s : Setup) (n b : ℕ) → n ≡ wordsOf s → b ≡ banksOf s
-    → record { memory = n; rows = 4 * s .c; entries = 4 * (b * s .k); heads = 2 * b } ≡ lengthsOf s
-sized s n b en eb = rw (en, eb)
 
 banks-requires : tie.Need-banks-requires
 banks-requires c κs = search needs
@@ -49,7 +44,7 @@ mul-t9 : tie.Need-mul-t9
 mul-t9 c = record { fits = search (heads-fit) }
 
 returns : tie.Need-returns
-returns c = search (sized)
+returns c = rw (c .before .before .words .ensures, c .before .before .before .banks .ensures)
 
 pub lengths-spec : {M : Type 1} → statement M
 lengths-spec =
