@@ -74,7 +74,11 @@ same-length-8 : tie.Need-same-length-8
 same-length-8 c = search needs
 
 returns-2 : tie.Need-returns-2
-returns-2 c = search (cycle-stepped)
+returns-2 c =
+    let stepped = c .before .before .before .before .before .before .before .before in
+    let sound = stepped .before .before .before .before .before .before in
+    let stood = sound .before .before in
+    cycle-stepped (stood .before .before .before .before .before .before .before .before .before .args .setup) _ _ _ _ (stood .standing .ensures) _ (sound .s .given .1) (stepped .step .ensures)
 
 pub cycle-spec : {M : Type 1} → statement M
 cycle-spec =

@@ -47,7 +47,7 @@ refuse-requires : tie.Need-refuse-requires
 refuse-requires c κs = search needs
 
 returns : tie.Need-returns
-returns c = search (step-refused)
+returns c = step-refused _ _ _ _ (c .before .before .offered .ensures) (c .before .if1 .taken) (c .refuse .ensures)
 
 serve-requires : tie.Need-serve-requires
 serve-requires c κs = search needs
@@ -72,7 +72,11 @@ same-length-4 : tie.Need-same-length-4
 same-length-4 c = search needs
 
 returns-2 : tie.Need-returns-2
-returns-2 c = search (step-passed)
+returns-2 c =
+    let rest = c .before .before .before .before .before .before in
+    let served = rest .before .before .before .before .before .before .before .before .before .before in
+    let left = served .before .before .before .before .before in
+    step-passed _ _ _ _ (left .before .offered .ensures) _ _ _ _ _ _ _ _ _ _ _ (left .if1 .left) (served .serve .ensures) (rest .go-on .ensures)
 
 pub step-spec : {M : Type 1} → statement M
 step-spec =

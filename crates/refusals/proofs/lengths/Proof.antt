@@ -4,9 +4,8 @@ use Prim.Native.Nat.{ℕ, _*_, _^_, _<_}
 use mathlib.Core.Path.{_≡_}
 use native.Mathlib.Omega.{arith}
 use Rattle.setup.specs.declared.Setup.{Setup}
-use Rattle.setup.specs.Setup.{Ranges, wordsOf, banksOf}
-use Rattle.model.specs.Lent.{rowNumbers, entryNumbers, headNumbers}
-use Rattle.model.specs.Range.{lengthsOf}
+use Rattle.setup.specs.Setup.{Ranges, banksOf}
+use Rattle.model.specs.Lent.{entryNumbers, headNumbers}
 use Rattle.setup.proofs.Ranges.{banks-most, places-most}
 use Rattle.refusals.proofs.lengths.Statement.{statement}
 use Rattle.refusals.proofs.lengths.Tie as tie
@@ -20,10 +19,6 @@ module _ (s : Setup) (b : ℕ) (g : Ranges s) (e : b ≡ banksOf s) where
 
   heads-fit : headNumbers * b < 2 ^ 32
   heads-fit = let l = banks-most s (g .sizes) in omega arith
-
-sized : (s : Setup) (n b : ℕ) → n ≡ wordsOf s → b ≡ banksOf s
-    → record { memory = n; rows = rowNumbers * s .c; entries = entryNumbers * (b * s .k); heads = headNumbers * b } ≡ lengthsOf s
-sized s n b en eb = rw (en, eb)
 
 banks-requires : tie.Need-banks-requires
 banks-requires c κs = search needs
@@ -50,7 +45,7 @@ mul-t9 : tie.Need-mul-t9
 mul-t9 c = record { fits = search (heads-fit) }
 
 returns : tie.Need-returns
-returns c = search (sized)
+returns c = rw (c .before .before .words .ensures, c .before .before .before .banks .ensures)
 
 pub lengths-spec : {M : Type 1} → statement M
 lengths-spec =

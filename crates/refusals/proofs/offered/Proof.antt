@@ -26,16 +26,16 @@ module _ (s : Setup) (t : State) (op : Operation) where
     offered-address k = rw (h, ← ea, k)
 
 returns : tie.Need-returns
-returns c = search (offered-stopped)
+returns c = offered-stopped _ _ _ (c .if1 .taken)
 
 address-ok-requires : tie.Need-address-ok-requires
 address-ok-requires c κs = search needs
 
 returns-2 : tie.Need-returns-2
-returns-2 c = search (offered-none)
+returns-2 c = offered-none _ _ _ (c .before .before .if1 .left) _ (c .before .address-ok .ensures) (c .if2 .taken)
 
 returns-3 : tie.Need-returns-3
-returns-3 c = search (offered-address)
+returns-3 c = offered-address _ _ _ (c .before .before .if1 .left) _ (c .before .address-ok .ensures) (c .if2 .left)
 
 pub offered-spec : {M : Type 1} → statement M
 offered-spec = tie.close (tie.spec returns address-ok-requires returns-2 returns-3)

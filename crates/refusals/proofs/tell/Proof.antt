@@ -29,10 +29,10 @@ count-at-requires : tie.Need-count-at-requires
 count-at-requires c κs = search needs
 
 returns : tie.Need-returns
-returns c = search (tell-count)
+returns c = tell-count _ _ _ _ (c .before .before .banks .ensures) _ (c .before .if1 .taken) (c .count-at .ensures)
 
 returns-2 : tie.Need-returns-2
-returns-2 c = search (tell-none)
+returns-2 c = tell-none _ _ _ _ (c .before .banks .ensures) (c .if1 .left)
 
 pub tell-spec : {M : Type 1} → statement M
 tell-spec = tie.close (tie.spec banks-requires count-at-requires returns returns-2)
