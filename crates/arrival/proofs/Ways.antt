@@ -1,18 +1,15 @@
 -- What follows service: what each return knows, in the order of the code, and what the calls ask. Assumes nothing.
-use Prim.Native.Nat.{ℕ, _-_, _*_, _<_}
+use Prim.Native.Nat.{ℕ, _-_, _<_}
 use mathlib.Core.Path.{_≡_, sym, ap, subst, _∙_}
 use mathlib.Core.Bool.{Bool, true, false}
 use mathlib.Core.List.{List}
-use native.Mathlib.Omega.{arith}
 use lib.Dec.{eqb}
 use lib.ListN.{length}
 use borrow.Author.Tests.{eq-eqb, ne-eqb}
 use Rattle.answers.specs.Answers.{done, dropped, stopping}
 use Rattle.setup.specs.Choice.{pick}
 use Rattle.setup.specs.declared.Setup.{Setup}
-use Rattle.setup.specs.Setup.{banksOf}
 use Rattle.map.specs.Map.{bankOf}
-use Rattle.map.proofs.Split.{bank-below}
 use Rattle.map.specs.declared.Address.{Address}
 use Rattle.port.specs.declared.Operation.{Operation}
 use Rattle.port.specs.declared.Operation.the-variants.{Idle, Read, Write}
@@ -25,39 +22,29 @@ use Rattle.model.specs.declared.Found.the-variants.{At, Nothing}
 use Rattle.model.specs.declared.Cycled.{Cycled}
 use Rattle.model.specs.Lent.{Buffers, buffersIn, writeKind, waitingKind, rowWith, rowAt, putRow, emptyRow, back}
 use Rattle.model.specs.Cycle.{leaves, delivered, newestLive, newestWrite, placed, writeOf, readOf, retiredWrite, retired, readPlaced, joined, readMerged, readArrived, writeArrived, arrived, nextState, stoppedState, cycled, finished, afterService}
-use Rattle.model.proofs.Range.{head-oldest, head-count}
-use Rattle.model.proofs.Rings.{part-within}
-use Rattle.model.proofs.Buffers.{GoodBuffers}
+use Rattle.model.specs.Range.{lengthsOf, GoodBuffers}
 use Rattle.model.proofs.Arrival.{retired-buffers-good}
-use Rattle.buffers.specs.Bank.{Head, Buffer}
+use Rattle.buffers.specs.Bank.{Buffer}
+use Rattle.buffers.proofs.Banks.{good-place}
 use Rattle.arrival.specs.Known.{Fit}
 
 ------------------------------------------------------------------------
 -- What the calls on the buffers ask
 
 module _ (s : Setup) (rows entries heads : List ℕ) (f : Fit s rows entries heads) where
-  pub fit-head : (b : ℕ) → b < banksOf s → Head s b heads
-  fit-head b h =
+  pub fit-good : GoodBuffers s (buffersIn entries heads)
+  fit-good =
       record {
-        sizes = f .exact .ranges .sizes;
-        head-within = omega (arith, f .exact .heads-long);
-        oldest-below = head-oldest s heads b (f .heads-ok b h);
-        count-most = head-count s heads b (f .heads-ok b h);
+        room = record { entries-long = f .exact .entries-long; heads-long = f .exact .heads-long };
+        heads-ok = f .heads-ok;
+        entries-ok = f .entries-ok;
       }
 
-  pub fit-buffer : (b : ℕ) → b < banksOf s → Buffer s b (buffersIn entries heads)
-  fit-buffer b h =
-      record {
-        head = fit-head b h;
-        part-within = omega (arith, f .exact .entries-long, part-within b (banksOf s) (s .k) h);
-      }
-
-  -- the bank of any cell is one of the B
   pub fit-place : (e : Entry) → Buffer s (bankOf s (e .cell)) (buffersIn entries heads)
-  fit-place e = fit-buffer (bankOf s (e .cell)) (bank-below s (e .cell))
+  fit-place = good-place s entries heads (f .exact .ranges) fit-good
 
 -- what the calls on the table ask
-pub fit-row : (s : Setup) (rows entries heads : List ℕ) (i : ℕ) → Fit s rows entries heads → i < s .c → (length rows ≡ 4 * s .c) × (i < s .c)
+pub fit-row : (s : Setup) (rows entries heads : List ℕ) (i : ℕ) → Fit s rows entries heads → i < s .c → (length rows ≡ lengthsOf s .rows) × (i < s .c)
 fit-row s rows entries heads i f h = (f .exact .rows-long, h)
 
 ------------------------------------------------------------------------
@@ -167,11 +154,10 @@ module _ (s : Setup) (t : State) (op : Operation) (rows : List ℕ) (q q′ : Bu
 module _ (s : Setup) (position : ℕ) (rows entries heads entries′ heads′ : List ℕ) where
   pub fit-retired : (ok : Bool) → Fit s rows entries heads → (ok, buffersIn entries′ heads′) ≡ retired s position rows (buffersIn entries heads) → Fit s rows entries′ heads′
   fit-retired ok f e =
-      let g : GoodBuffers s (buffersIn entries heads) = record { entries-long = f .exact .entries-long; heads-long = f .exact .heads-long; heads-ok = f .heads-ok; entries-ok = f .entries-ok } in
       let g′ : GoodBuffers s (buffersIn entries′ heads′)
-      = subst (λ (w : Bool × Buffers). GoodBuffers s (w .1)) (sym e) (retired-buffers-good s (f .exact .ranges) (buffersIn entries heads) g position rows) in
+      = subst (λ (w : Bool × Buffers). GoodBuffers s (w .1)) (sym e) (retired-buffers-good s (f .exact .ranges) (buffersIn entries heads) (fit-good s rows entries heads f) position rows) in
       record {
-        exact = record { ranges = f .exact .ranges; rows-long = f .exact .rows-long; entries-long = g′ .entries-long; heads-long = g′ .heads-long };
+        exact = record { ranges = f .exact .ranges; rows-long = f .exact .rows-long; entries-long = g′ .room .entries-long; heads-long = g′ .room .heads-long };
         heads-ok = g′ .heads-ok;
         entries-ok = g′ .entries-ok;
       }

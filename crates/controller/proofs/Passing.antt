@@ -15,9 +15,9 @@ use Rattle.arrival.specs.Known.{Fit}
 pub good-fit : (s : Setup) (memory rows entries heads : List ℕ) → Good s (lent memory rows entries heads) → Fit s rows entries heads
 good-fit s memory rows entries heads g =
     record {
-      exact = record { ranges = g .ranges; rows-long = g .rows-long; entries-long = g .entries-long; heads-long = g .heads-long };
-      heads-ok = g .heads-ok;
-      entries-ok = g .entries-ok;
+      exact = record { ranges = g .ranges; rows-long = g .rows .long; entries-long = g .buffers .room .entries-long; heads-long = g .buffers .room .heads-long };
+      heads-ok = g .buffers .heads-ok;
+      entries-ok = g .buffers .entries-ok;
     }
 
 pub fit-served : (s : Setup) (turn : ℕ) (memory rows entries heads memory′ rows′ heads′ : List ℕ) → Good s (lent memory rows entries heads)

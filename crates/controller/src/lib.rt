@@ -274,7 +274,7 @@ fn question(
             if bank < s.banks() {
                 return Waiting {
                     answer: answers::DONE,
-                    count: buffers::count_at(heads, bank as usize),
+                    count: heads::count_at(heads, bank as usize),
                 };
             }
             return Waiting {
