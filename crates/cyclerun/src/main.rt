@@ -10,6 +10,9 @@ ghost use Rattle.replay.specs.Replay.{recordsIn, zerosFor, wholeRoom, Opened};
 ghost use Rattle.cyclerun.specs.Parts.{partMost};
 use libc::STDIN_FILENO;
 use libc::STDOUT_FILENO;
+use model::Entry;
+use model::Head;
+use model::Row;
 use replay::Opening;
 use replay::Run;
 use setup::Setup;
@@ -98,9 +101,9 @@ fn cut(
 {
     let words = s.words() as usize;
     let banks = s.banks() as usize;
-    let row_numbers = 4 * (s.c as usize);
-    let entry_numbers = 4 * (banks * (s.k as usize));
-    let head_numbers = 2 * banks;
+    let row_numbers = Row::NUMBERS * (s.c as usize);
+    let entry_numbers = Entry::NUMBERS * (banks * (s.k as usize));
+    let head_numbers = Head::NUMBERS * banks;
     run_all(
         s,
         &mut memory[..words],

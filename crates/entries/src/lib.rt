@@ -97,13 +97,8 @@ fn all_ok(s: Setup, n: u32, banks: usize, entries: &[u32], heads: &[u32]) -> boo
     ensures { λ r. ⌜ r ≡ buffersOk s (buffersIn (now (entries .entry)) (now (heads .entry))) (banksOf s) ⌝ }
 {
     if crowded(s, banks, heads) {
-        if lanes::fours_below(
-            entries,
-            entries.len() / Entry::NUMBERS,
-            Entry::WRITE + 1,
-            s.c as u32,
-            n,
-        ) {
+        let places = entries.len() / Entry::NUMBERS;
+        if lanes::fours_below(entries, places, Entry::WRITE + 1, s.c as u32, n) {
             return true;
         }
     }
