@@ -29,20 +29,29 @@ words-requires c κs = search needs
 cast-t4 : tie.Need-cast-t4
 cast-t4 c = search needs
 
-mul-t5 : tie.Need-mul-t5
-mul-t5 c = search needs
+cast-t5 : tie.Need-cast-t5
+cast-t5 c = search needs
 
-cast-t6 : tie.Need-cast-t6
-cast-t6 c = search needs
+mul-t6 : tie.Need-mul-t6
+mul-t6 c = search needs
 
-mul-t7 : tie.Need-mul-t7
-mul-t7 c = record { fits = search (places-fit) }
+cast-t7 : tie.Need-cast-t7
+cast-t7 c = search needs
 
-mul-t8 : tie.Need-mul-t8
-mul-t8 c = record { fits = search (numbers-fit) }
+cast-t8 : tie.Need-cast-t8
+cast-t8 c = search needs
 
 mul-t9 : tie.Need-mul-t9
-mul-t9 c = record { fits = search (heads-fit) }
+mul-t9 c = record { fits = search (places-fit) }
+
+mul-t10 : tie.Need-mul-t10
+mul-t10 c = record { fits = search (numbers-fit) }
+
+cast-t11 : tie.Need-cast-t11
+cast-t11 c = search needs
+
+mul-t12 : tie.Need-mul-t12
+mul-t12 c = record { fits = search (heads-fit) }
 
 returns : tie.Need-returns
 returns c = rw (c .before .before .words .ensures, c .before .before .before .banks .ensures)
@@ -50,4 +59,16 @@ returns c = rw (c .before .before .words .ensures, c .before .before .before .ba
 pub lengths-spec : {M : Type 1} → statement M
 lengths-spec =
     tie.close
-    (tie.spec banks-requires words-requires cast-t4 mul-t5 cast-t6 mul-t7 mul-t8 mul-t9 returns)
+    (tie.spec
+    banks-requires
+    words-requires
+    cast-t4
+    cast-t5
+    mul-t6
+    cast-t7
+    cast-t8
+    mul-t9
+    mul-t10
+    cast-t11
+    mul-t12
+    returns)
