@@ -9,7 +9,7 @@ use Rattle.map.specs.declared.Map.{Map}
 use Rattle.map.specs.declared.Address.{Address}
 use Rattle.map.specs.declared.Cell.{Cell}
 use Rattle.map.specs.Map.{cellOf, bankOf, rowOf, joinOf}
-use Rattle.map.specs.Map as map
+use Rattle.map.specs.Map as addressMap
 use Rattle.port.specs.declared.Operation.{Operation}
 use Rattle.records.specs.declared.OperationRecord.{OperationRecord}
 use Rattle.setuprecord.specs.declared.SetupRecord.{SetupRecord}
@@ -47,8 +47,8 @@ pub record Exported : Type 0 where
   pub map : Unique {A = Setup} {B = Map} mapOf
   pub words : Unique {A = Setup} {B = ℕ} wordsOf
   pub banks : Unique {A = Setup} {B = ℕ} banksOf
-  pub map-words : Unique {A = Map} {B = ℕ} map.wordsOf
-  pub map-banks : Unique {A = Map} {B = ℕ} map.banksOf
+  pub map-words : Unique {A = Map} {B = ℕ} addressMap.wordsOf
+  pub map-banks : Unique {A = Map} {B = ℕ} addressMap.banksOf
   pub cell : Unique {A = Map × Address} {B = Cell} (λ i. cellOf (i .0) (i .1))
   pub bank : Unique {A = Map × Cell} {B = ℕ} (λ i. bankOf (i .0) (i .1))
   pub row : Unique {A = Map × Cell} {B = ℕ} (λ i. rowOf (i .0) (i .1))

@@ -32,7 +32,7 @@ module _ (g : Setup) (t : State) (bank : ℕ) (memory rows entries heads : List 
     standing-ranges = standing-ready g s (lent memory rows entries heads) t ek h .good .ranges
 
     standing-heads : length heads ≡ lengthsOf s .heads
-    standing-heads = standing-ready g s (lent memory rows entries heads) t ek h .good .heads-long
+    standing-heads = standing-ready g s (lent memory rows entries heads) t ek h .good .buffers .room .heads-long
 
 standing-requires : tie.Need-standing-requires
 standing-requires c κs = search needs
