@@ -3,7 +3,7 @@ use mathlib.Core.Path.{_≡_}
 use borrow.Author.Needs.{needs}
 use Rattle.setup.specs.declared.Setup.{Setup}
 use Rattle.setup.specs.declared.Checked as setup
-use Rattle.records.specs.declared.SetupRecord.{SetupRecord}
+use Rattle.setuprecord.specs.declared.SetupRecord.{SetupRecord}
 use Rattle.forms.specs.declared.Checked.{Checked}
 use Rattle.forms.specs.Forms.{checkedOut, setupRead}
 use Rattle.forms.proofs.setup_read.Statement.{statement}
