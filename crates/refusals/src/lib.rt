@@ -71,7 +71,7 @@ fn numbers_ok(s: Setup, t: State, rows: &[u32], entries: &[u32], heads: &[u32]) 
     turn & table & entries::buffers_ok(s, n, entries, heads)
 }
 
-// 1, 2 and 3: besides, every number in the range its meaning allows.
+// 1, 2 and 3: besides, every number in the range its meaning allows. Not through `exact`, which would copy the setup twice more.
 pub fn standing(
     setup: Setup,
     t: State,
@@ -83,15 +83,16 @@ pub fn standing(
     ensures { λ r. ⌜ r
         ≡ standingOf setup t (lent (now (memory .entry)) (now (rows .entry)) (now (entries .entry)) (now (heads .entry))) ⌝ }
 {
-    match exact(setup, memory, rows, entries, heads) {
-        Standing::Refusal(n) => Standing::Refusal(n),
-        Standing::Sound(s) => {
-            if numbers_ok(s, t, rows, entries, heads) {
-                return Standing::Sound(s);
-            }
-            Standing::Refusal(answers::BAD_STATE)
+    let Checked::Good(s) = Setup::checked(setup) else {
+        return Standing::Refusal(answers::BAD_SETUP);
+    };
+    if lengths_ok(s, memory, rows, entries, heads) {
+        if numbers_ok(s, t, rows, entries, heads) {
+            return Standing::Sound(s);
         }
+        return Standing::Refusal(answers::BAD_STATE);
     }
+    Standing::Refusal(answers::BAD_LENGTH)
 }
 
 // Whether the operation's address, if it has one, is below N.
