@@ -116,17 +116,18 @@ fn arrive(
 fn land(
     s: Setup,
     t: State,
+    op: Operation,
     delivery: Delivery,
     retiring: Placing,
-    plan: Plan,
     rows: &mut [u32],
     entries: &mut [u32],
     heads: &mut [u32],
 ) -> Cycled
     requires { ⌜ Ranges s × (length (now rows) ≡ 4 * s .c) × EachBuffer s (buffersIn (now entries) (now heads)) × (t .turn < s .m) × (t .position < s .c) ⌝ }
-    ensures { λ r. ⌜ (r, (now (rows .exit), buffersIn (now (entries .exit)) (now (heads .exit)))) ≡ going s t plan delivery (now (rows .entry)) (placedIf s retiring (buffersIn (now (entries .entry)) (now (heads .entry)))) ⌝ }
+    ensures { λ r. ⌜ (r, (now (rows .exit), buffersIn (now (entries .exit)) (now (heads .exit)))) ≡ going s t (planned s (t .position) op (now (rows .entry))) delivery (now (rows .entry)) (placedIf s retiring (buffersIn (now (entries .entry)) (now (heads .entry)))) ⌝ }
 {
     if place_if(s, retiring, entries, heads) {
+        let plan = plan(s, t.position, op, rows);
         let taken = arrive(s, t.position, plan, rows, entries, heads);
         return plan::pass(s, t, delivery, taken);
     }
@@ -147,6 +148,5 @@ pub fn go_on(
 {
     let delivery = deliver(s, t.position as usize, rows);
     let retiring = give_up(s, t.position as usize, rows);
-    let plan = plan(s, t.position, op, rows);
-    land(s, t, delivery, retiring, plan, rows, entries, heads)
+    land(s, t, op, delivery, retiring, rows, entries, heads)
 }

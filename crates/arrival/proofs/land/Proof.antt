@@ -12,6 +12,7 @@ use Rattle.setup.specs.declared.Setup.{Setup}
 use Rattle.setup.specs.Setup.{banksOf}
 use Rattle.map.specs.Map.{bankOf}
 use Rattle.map.proofs.Split.{bank-below}
+use Rattle.port.specs.declared.Operation.{Operation}
 use Rattle.port.specs.declared.Delivery.{Delivery}
 use Rattle.model.specs.declared.State.{State}
 use Rattle.model.specs.declared.Entry.{Entry}
@@ -20,7 +21,7 @@ use Rattle.model.specs.declared.Placing.the-variants.{NoEntry, OneEntry}
 use Rattle.model.specs.declared.Plan.{Plan}
 use Rattle.model.specs.declared.Cycled.{Cycled}
 use Rattle.model.specs.Lent.{Buffers, oldestOf, countOf}
-use Rattle.model.specs.Cycle.{placedAt, placedIf, arrived, nextState, stoppedState, cycled, going}
+use Rattle.model.specs.Cycle.{placedAt, placedIf, planned, arrived, nextState, stoppedState, cycled, going}
 use Rattle.model.proofs.Tests.{same-or-not}
 use Rattle.model.proofs.Four.{length-put-entry}
 use Rattle.model.proofs.Rings.{length-put-head, oldest-put-same, oldest-put-other, count-put-same, count-put-other}
@@ -89,16 +90,19 @@ module _ (s : Setup) (q q′ : Buffers) (g : Placing) (ok : Bool) (eg : (ok, q�
   each-after : EachBuffer s q → EachBuffer s q′
   each-after each = subst (λ (w : Bool × Buffers). EachBuffer s (w .1)) (sym eg) (each-placed s q each g)
 
-  module _ (t : State) (d : Delivery) (p : Plan) (rows : List ℕ) (r : Cycled) where
-    cycle-passes : (taken : Bool) (w : List ℕ × Buffers) → ok ≡ true → (taken, w) ≡ arrived s (t .position) p rows q′
-        → r ≡ cycled t (pick taken done dropped) d (nextState s t) → (r, w) ≡ going s t p d rows (placedIf s g q)
-    cycle-passes taken w h z e = rw (← eg, h, ← z, e)
+  module _ (t : State) (op : Operation) (d : Delivery) (rows : List ℕ) (r : Cycled) where
+    cycle-passes : (p : Plan) (taken : Bool) (w : List ℕ × Buffers) → ok ≡ true → p ≡ planned s (t .position) op rows → (taken, w) ≡ arrived s (t .position) p rows q′
+        → r ≡ cycled t (pick taken done dropped) d (nextState s t) → (r, w) ≡ going s t (planned s (t .position) op rows) d rows (placedIf s g q)
+    cycle-passes p taken w h ep z e = rw (← eg, h, ← ep, ← z, e)
 
-    cycle-stops : ok ≡ false → r ≡ cycled t stopping d (stoppedState t) → (r, (rows, q′)) ≡ going s t p d rows (placedIf s g q)
+    cycle-stops : ok ≡ false → r ≡ cycled t stopping d (stoppedState t) → (r, (rows, q′)) ≡ going s t (planned s (t .position) op rows) d rows (placedIf s g q)
     cycle-stops h e = rw (← eg, h, e)
 
 place-if-requires : tie.Need-place-if-requires
 place-if-requires c κs = search needs
+
+plan-requires : tie.Need-plan-requires
+plan-requires c κs = search needs
 
 arrive-requires : tie.Need-arrive-requires
 arrive-requires c κs = (search needs, search (each-after), search needs)
@@ -135,6 +139,7 @@ land-spec =
     tie.close
     (tie.spec
     place-if-requires
+    plan-requires
     arrive-requires
     pass-requires
     same-length
