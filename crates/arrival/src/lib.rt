@@ -112,6 +112,32 @@ fn arrive(
     taken
 }
 
+// The operation arrives. A write asks for no look: it goes by itself, which spares it the joining of the ways.
+fn take(
+    s: Setup,
+    position: u32,
+    op: Operation,
+    rows: &mut [u32],
+    entries: &mut [u32],
+    heads: &mut [u32],
+) -> bool
+    requires { ⌜ Ranges s × (length (now rows) ≡ 4 * s .c) × EachBuffer s (buffersIn (now entries) (now heads)) × (position < s .c) ⌝ }
+    ensures { λ taken. ⌜ (taken, (now (rows .exit), buffersIn (now (entries .exit)) (now (heads .exit)))) ≡ arrived s position (planned s position op (now (rows .entry))) (now (rows .entry)) (buffersIn (now (entries .entry)) (now (heads .entry))) ⌝ }
+{
+    if let Operation::Write(a, word) = op {
+        return arrive(
+            s,
+            position,
+            plan::plan_write(s, a, word),
+            rows,
+            entries,
+            heads,
+        );
+    }
+    let plan = plan(s, position, op, rows);
+    arrive(s, position, plan, rows, entries, heads)
+}
+
 // The retiring write first: where its buffer is full the machine stops, and arrival is not looked at.
 fn land(
     s: Setup,
@@ -127,8 +153,7 @@ fn land(
     ensures { λ r. ⌜ (r, (now (rows .exit), buffersIn (now (entries .exit)) (now (heads .exit)))) ≡ going s t (planned s (t .position) op (now (rows .entry))) delivery (now (rows .entry)) (placedIf s retiring (buffersIn (now (entries .entry)) (now (heads .entry)))) ⌝ }
 {
     if place_if(s, retiring, entries, heads) {
-        let plan = plan(s, t.position, op, rows);
-        let taken = arrive(s, t.position, plan, rows, entries, heads);
+        let taken = take(s, t.position, op, rows, entries, heads);
         return plan::pass(s, t, delivery, taken);
     }
     plan::stop(t, delivery)

@@ -18,7 +18,6 @@ use Rattle.model.specs.declared.State.{State}
 use Rattle.model.specs.declared.Entry.{Entry}
 use Rattle.model.specs.declared.Placing.{Placing}
 use Rattle.model.specs.declared.Placing.the-variants.{NoEntry, OneEntry}
-use Rattle.model.specs.declared.Plan.{Plan}
 use Rattle.model.specs.declared.Cycled.{Cycled}
 use Rattle.model.specs.Lent.{Buffers, oldestOf, countOf}
 use Rattle.model.specs.Cycle.{placedAt, placedIf, planned, arrived, nextState, stoppedState, cycled, going}
@@ -91,9 +90,9 @@ module _ (s : Setup) (q q′ : Buffers) (g : Placing) (ok : Bool) (eg : (ok, q�
   each-after each = subst (λ (w : Bool × Buffers). EachBuffer s (w .1)) (sym eg) (each-placed s q each g)
 
   module _ (t : State) (op : Operation) (d : Delivery) (rows : List ℕ) (r : Cycled) where
-    cycle-passes : (p : Plan) (taken : Bool) (w : List ℕ × Buffers) → ok ≡ true → p ≡ planned s (t .position) op rows → (taken, w) ≡ arrived s (t .position) p rows q′
+    cycle-passes : (taken : Bool) (w : List ℕ × Buffers) → ok ≡ true → (taken, w) ≡ arrived s (t .position) (planned s (t .position) op rows) rows q′
         → r ≡ cycled t (pick taken done dropped) d (nextState s t) → (r, w) ≡ going s t (planned s (t .position) op rows) d rows (placedIf s g q)
-    cycle-passes p taken w h ep z e = rw (← eg, h, ← ep, ← z, e)
+    cycle-passes taken w h z e = rw (← eg, h, ← z, e)
 
     cycle-stops : ok ≡ false → r ≡ cycled t stopping d (stoppedState t) → (r, (rows, q′)) ≡ going s t (planned s (t .position) op rows) d rows (placedIf s g q)
     cycle-stops h e = rw (← eg, h, e)
@@ -101,11 +100,8 @@ module _ (s : Setup) (q q′ : Buffers) (g : Placing) (ok : Bool) (eg : (ok, q�
 place-if-requires : tie.Need-place-if-requires
 place-if-requires c κs = search needs
 
-plan-requires : tie.Need-plan-requires
-plan-requires c κs = search needs
-
-arrive-requires : tie.Need-arrive-requires
-arrive-requires c κs = (search needs, search (each-after), search needs)
+take-requires : tie.Need-take-requires
+take-requires c κs = (search needs, search needs, search (each-after), search needs)
 
 pass-requires : tie.Need-pass-requires
 pass-requires c κs = search needs
@@ -139,8 +135,7 @@ land-spec =
     tie.close
     (tie.spec
     place-if-requires
-    plan-requires
-    arrive-requires
+    take-requires
     pass-requires
     same-length
     same-length-2
