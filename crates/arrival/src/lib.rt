@@ -112,22 +112,48 @@ fn arrive(
     taken
 }
 
+// The operation arrives. A write asks for no look: it goes by itself, which spares it the joining of the ways.
+fn take(
+    s: Setup,
+    position: u32,
+    op: Operation,
+    rows: &mut [u32],
+    entries: &mut [u32],
+    heads: &mut [u32],
+) -> bool
+    requires { ⌜ Ranges s × (length (now rows) ≡ lengthsOf s .rows) × EachBuffer s (buffersIn (now entries) (now heads)) × (position < s .c) ⌝ }
+    ensures { λ taken. ⌜ (taken, (now (rows .exit), buffersIn (now (entries .exit)) (now (heads .exit)))) ≡ arrived s position (planned s position op (now (rows .entry))) (now (rows .entry)) (buffersIn (now (entries .entry)) (now (heads .entry))) ⌝ }
+{
+    if let Operation::Write(a, word) = op {
+        return arrive(
+            s,
+            position,
+            plan::plan_write(s, a, word),
+            rows,
+            entries,
+            heads,
+        );
+    }
+    let plan = plan(s, position, op, rows);
+    arrive(s, position, plan, rows, entries, heads)
+}
+
 // The retiring write first: where its buffer is full the machine stops, and arrival is not looked at.
 fn land(
     s: Setup,
     t: State,
+    op: Operation,
     delivery: Delivery,
     retiring: Placing,
-    plan: Plan,
     rows: &mut [u32],
     entries: &mut [u32],
     heads: &mut [u32],
 ) -> Cycled
     requires { ⌜ Ranges s × (length (now rows) ≡ lengthsOf s .rows) × EachBuffer s (buffersIn (now entries) (now heads)) × (t .turn < s .m) × (t .position < s .c) ⌝ }
-    ensures { λ r. ⌜ (r, (now (rows .exit), buffersIn (now (entries .exit)) (now (heads .exit)))) ≡ going s t plan delivery (now (rows .entry)) (placedIf s retiring (buffersIn (now (entries .entry)) (now (heads .entry)))) ⌝ }
+    ensures { λ r. ⌜ (r, (now (rows .exit), buffersIn (now (entries .exit)) (now (heads .exit)))) ≡ going s t (planned s (t .position) op (now (rows .entry))) delivery (now (rows .entry)) (placedIf s retiring (buffersIn (now (entries .entry)) (now (heads .entry)))) ⌝ }
 {
     if place_if(s, retiring, entries, heads) {
-        let taken = arrive(s, t.position, plan, rows, entries, heads);
+        let taken = take(s, t.position, op, rows, entries, heads);
         return plan::pass(s, t, delivery, taken);
     }
     plan::stop(t, delivery)
@@ -147,6 +173,5 @@ pub fn go_on(
 {
     let delivery = deliver(s, t.position as usize, rows);
     let retiring = give_up(s, t.position as usize, rows);
-    let plan = plan(s, t.position, op, rows);
-    land(s, t, delivery, retiring, plan, rows, entries, heads)
+    land(s, t, op, delivery, retiring, rows, entries, heads)
 }

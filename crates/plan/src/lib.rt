@@ -189,8 +189,8 @@ fn next_state(s: Setup, t: State) -> State
 {
     State {
         stamp: std::num::wrapping_add_u32(t.stamp, 1),
-        turn: rings::onward(s.m as usize, t.turn as usize, 1) as u32,
-        position: rings::onward(s.c as usize, t.position as usize, 1) as u32,
+        turn: rings::next(s.m as usize, t.turn as usize) as u32,
+        position: rings::next(s.c as usize, t.position as usize) as u32,
         stopped: t.stopped,
     }
 }

@@ -8,7 +8,6 @@ use Rattle.port.specs.declared.Operation.{Operation}
 use Rattle.port.specs.declared.Delivery.{Delivery}
 use Rattle.model.specs.declared.State.{State}
 use Rattle.model.specs.declared.Placing.{Placing}
-use Rattle.model.specs.declared.Plan.{Plan}
 use Rattle.model.specs.declared.Cycled.{Cycled}
 use Rattle.model.specs.Lent.{Buffers, buffersIn}
 use Rattle.model.specs.Cycle.{delivered, placedIf, givenUp, retired, planned, going, afterService}
@@ -22,11 +21,11 @@ use Rattle.arrival.proofs.go_on.Tie as tie
 good-each : (s : Setup) (entries heads : List ℕ) → Ranges s → GoodBuffers s (buffersIn entries heads) → EachBuffer s (buffersIn entries heads)
 good-each s entries heads r g = record { of = good-buffer s entries heads r g }
 
-planned-lands : (s : Setup) (t : State) (op : Operation) (rows : List ℕ) (q : Buffers) (d : Delivery) (g : Placing) (p : Plan) (w : Cycled × (List ℕ × Buffers))
-    → d ≡ delivered s (t .position) rows → g ≡ givenUp s (t .position) rows → p ≡ planned s (t .position) op rows → w ≡ going s t p d rows (placedIf s g q)
+planned-lands : (s : Setup) (t : State) (op : Operation) (rows : List ℕ) (q : Buffers) (d : Delivery) (g : Placing) (w : Cycled × (List ℕ × Buffers))
+    → d ≡ delivered s (t .position) rows → g ≡ givenUp s (t .position) rows → w ≡ going s t (planned s (t .position) op rows) d rows (placedIf s g q)
     → w ≡ afterService s t op rows q
 unfolding afterService retired
-planned-lands s t op rows q d g p w ed eg ep z = rw (← ed, ← eg, ← ep) z
+planned-lands s t op rows q d g w ed eg z = rw (← ed, ← eg) z
 
 cast-deliver : tie.Need-cast-deliver
 cast-deliver c = search needs
@@ -39,9 +38,6 @@ cast-give-up c = search needs
 
 give-up-requires : tie.Need-give-up-requires
 give-up-requires c κs = search needs
-
-plan-requires : tie.Need-plan-requires
-plan-requires c κs = search needs
 
 land-requires : tie.Need-land-requires
 land-requires c κs = (search needs, search needs, search (good-each), search needs, search needs)
@@ -66,7 +62,6 @@ go-on-spec =
     deliver-requires
     cast-give-up
     give-up-requires
-    plan-requires
     land-requires
     same-length
     same-length-2

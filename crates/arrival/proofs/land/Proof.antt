@@ -12,15 +12,15 @@ use Rattle.setup.specs.declared.Setup.{Setup}
 use Rattle.setup.specs.Setup.{mapOf, banksOf}
 use Rattle.map.specs.Map.{bankOf}
 use Rattle.map.proofs.Split.{bank-below}
+use Rattle.port.specs.declared.Operation.{Operation}
 use Rattle.port.specs.declared.Delivery.{Delivery}
 use Rattle.model.specs.declared.State.{State}
 use Rattle.model.specs.declared.Entry.{Entry}
 use Rattle.model.specs.declared.Placing.{Placing}
 use Rattle.model.specs.declared.Placing.the-variants.{NoEntry, OneEntry}
-use Rattle.model.specs.declared.Plan.{Plan}
 use Rattle.model.specs.declared.Cycled.{Cycled}
 use Rattle.model.specs.Lent.{Buffers, headNumbers, oldestOf, countOf}
-use Rattle.model.specs.Cycle.{placedAt, placedIf, arrived, nextState, stoppedState, cycled, going}
+use Rattle.model.specs.Cycle.{placedAt, placedIf, planned, arrived, nextState, stoppedState, cycled, going}
 use Rattle.choice.proofs.Tests.{same-or-not}
 use Rattle.model.proofs.Lent.{length-put-entry, length-put-head, oldest-put-same, oldest-put-other, count-put-same, count-put-other}
 use Rattle.model.proofs.Buffers.{nextPlace, placed-full, placed-room}
@@ -89,19 +89,19 @@ module _ (s : Setup) (q q′ : Buffers) (g : Placing) (ok : Bool) (eg : (ok, q�
   each-after : EachBuffer s q → EachBuffer s q′
   each-after each = subst (λ (w : Bool × Buffers). EachBuffer s (w .1)) (sym eg) (each-placed s q each g)
 
-  module _ (t : State) (d : Delivery) (p : Plan) (rows : List ℕ) (r : Cycled) where
-    cycle-passes : (taken : Bool) (w : List ℕ × Buffers) → ok ≡ true → (taken, w) ≡ arrived s (t .position) p rows q′
-        → r ≡ cycled t (pick taken done dropped) d (nextState s t) → (r, w) ≡ going s t p d rows (placedIf s g q)
+  module _ (t : State) (op : Operation) (d : Delivery) (rows : List ℕ) (r : Cycled) where
+    cycle-passes : (taken : Bool) (w : List ℕ × Buffers) → ok ≡ true → (taken, w) ≡ arrived s (t .position) (planned s (t .position) op rows) rows q′
+        → r ≡ cycled t (pick taken done dropped) d (nextState s t) → (r, w) ≡ going s t (planned s (t .position) op rows) d rows (placedIf s g q)
     cycle-passes taken w h z e = rw (← eg, h, ← z, e)
 
-    cycle-stops : ok ≡ false → r ≡ cycled t stopping d (stoppedState t) → (r, (rows, q′)) ≡ going s t p d rows (placedIf s g q)
+    cycle-stops : ok ≡ false → r ≡ cycled t stopping d (stoppedState t) → (r, (rows, q′)) ≡ going s t (planned s (t .position) op rows) d rows (placedIf s g q)
     cycle-stops h e = rw (← eg, h, e)
 
 place-if-requires : tie.Need-place-if-requires
 place-if-requires c κs = search needs
 
-arrive-requires : tie.Need-arrive-requires
-arrive-requires c κs = (search needs, search (each-after), search needs)
+take-requires : tie.Need-take-requires
+take-requires c κs = (search needs, search needs, search (each-after), search needs)
 
 pass-requires : tie.Need-pass-requires
 pass-requires c κs = search needs
@@ -135,7 +135,7 @@ land-spec =
     tie.close
     (tie.spec
     place-if-requires
-    arrive-requires
+    take-requires
     pass-requires
     same-length
     same-length-2
