@@ -3,7 +3,7 @@ use Prim.Native.Nat.{ℕ, _+_, _-_, _%_, _^_}
 use mathlib.Core.Path.{_≡_}
 use Rattle.setup.specs.declared.Setup.{Setup}
 use Rattle.model.specs.declared.State.{State}
-use Rattle.model.specs.Lent.{onward}
+use Rattle.rings.specs.Places.{onward}
 use Rattle.model.specs.Cycle.{nextState}
 use borrow.Author.Needs.{needs}
 use Rattle.plan.proofs.next_state.Statement.{statement}
