@@ -177,7 +177,8 @@ pub fn plan_write(s: Setup, a: Address, word: u32) -> Plan
 pub fn seat(taken: bool, r: Row) -> Row
     ensures { λ x. ⌜ x ≡ pick taken r emptyRow ⌝ }
 {
-    if taken { r } else { empty() }
+    let none = empty();
+    if taken { r } else { none }
 }
 
 // ---- What the call returns
