@@ -77,7 +77,8 @@ fn full(s: Setup, count: u32) -> bool
 // Places an entry in bank b's buffer, which is not full.
 fn place_at(s: Setup, b: usize, e: Entry, entries: &mut [u32], heads: &mut [u32])
     requires { ⌜ Buffer s b (buffersIn (now entries) (now heads)) × (countOf (now heads) b < s .k) ⌝ }
-    ensures { λ _. ⌜ buffersIn (now (entries .exit)) (now (heads .exit)) ≡ placedAt s b e (buffersIn (now (entries .entry)) (now (heads .entry))) ⌝ }
+    ensures { λ _. ⌜ buffersIn (now (entries .exit)) (now (heads .exit))
+        ≡ placedAt s b e (buffersIn (now (entries .entry)) (now (heads .entry))) ⌝ }
 {
     let k = s.k as usize;
     let from = Entry::NUMBERS * (b * k); // the part to write to
@@ -98,7 +99,8 @@ fn place_at(s: Setup, b: usize, e: Entry, entries: &mut [u32], heads: &mut [u32]
 // Places an entry in the buffer of its cell's bank; false, and nothing changed, where that holds K.
 pub fn place(s: Setup, e: Entry, entries: &mut [u32], heads: &mut [u32]) -> bool
     requires { ⌜ Buffer s (bankOf (mapOf s) (e .cell)) (buffersIn (now entries) (now heads)) ⌝ }
-    ensures { λ r. ⌜ (r, buffersIn (now (entries .exit)) (now (heads .exit))) ≡ placed s e (buffersIn (now (entries .entry)) (now (heads .entry))) ⌝ }
+    ensures { λ r. ⌜ (r, buffersIn (now (entries .exit)) (now (heads .exit)))
+        ≡ placed s e (buffersIn (now (entries .entry)) (now (heads .entry))) ⌝ }
 {
     let cell = e.cell;
     let b = cell.bank(s.map()) as usize;

@@ -56,7 +56,8 @@ fn part_ok(part: &[u32], k: usize, oldest: u32, count: u32, n: u32, c: u32) -> b
 // The entries that wait at bank b, whose head is in range; of n words.
 fn waiting_ok(s: Setup, n: u32, b: usize, entries: &[u32], heads: &[u32]) -> bool
     requires { ⌜ Buffer s b (buffersIn (now entries) (now heads)) × (n ≡ wordsOf s) ⌝ }
-    ensures { λ r. ⌜ r ≡ entriesOk s (buffersIn (now (entries .entry)) (now (heads .entry))) b (countOf (now (heads .entry)) b) ⌝ }
+    ensures { λ r. ⌜ r
+        ≡ entriesOk s (buffersIn (now (entries .entry)) (now (heads .entry))) b (countOf (now (heads .entry)) b) ⌝ }
 {
     let k = s.k as usize;
     let from = Entry::NUMBERS * (b * k); // the part to look through
@@ -85,7 +86,8 @@ fn each_ok(s: Setup, n: u32, banks: usize, entries: &[u32], heads: &[u32]) -> bo
 // Whether more than half the places of the first and of the last bank wait: in most runs most places then do.
 fn crowded(s: Setup, banks: usize, heads: &[u32]) -> bool
     requires { ⌜ (length (now heads) ≡ headNumbers * banks) × (0 < banks) ⌝ }
-    ensures { λ r. ⌜ r ≡ ltb (s .k / 2) (countOf (now (heads .entry)) 0) && ltb (s .k / 2) (countOf (now (heads .entry)) (banks - 1)) ⌝ }
+    ensures { λ r. ⌜ r
+        ≡ ltb (s .k / 2) (countOf (now (heads .entry)) 0) && ltb (s .k / 2) (countOf (now (heads .entry)) (banks - 1)) ⌝ }
 {
     let half = (s.k as u32) / 2;
     (half < count_at(heads, 0)) & (half < count_at(heads, banks - 1))

@@ -33,7 +33,8 @@ fn serve_bank(
     heads: &mut [u32],
 )
     requires { ⌜ Good s (lent (now memory) (now rows) (now entries) (now heads)) × (b < banksOf s) ⌝ }
-    ensures { λ _. ⌜ lent (now (memory .exit)) (now (rows .exit)) (now (entries .entry)) (now (heads .exit)) ≡ servedBank s b (lent (now (memory .entry)) (now (rows .entry)) (now (entries .entry)) (now (heads .entry))) ⌝ }
+    ensures { λ _. ⌜ lent (now (memory .exit)) (now (rows .exit)) (now (entries .entry)) (now (heads .exit))
+        ≡ servedBank s b (lent (now (memory .entry)) (now (rows .entry)) (now (entries .entry)) (now (heads .entry))) ⌝ }
 {
     if heads::count_at(heads, b) == 0 {
         return;
@@ -54,7 +55,8 @@ fn serve_if(
     heads: &mut [u32],
 )
     requires { ⌜ Good s (lent (now memory) (now rows) (now entries) (now heads)) × (b < banksOf s) ⌝ }
-    ensures { λ _. ⌜ lent (now (memory .exit)) (now (rows .exit)) (now (entries .entry)) (now (heads .exit)) ≡ servedIf s turn b (lent (now (memory .entry)) (now (rows .entry)) (now (entries .entry)) (now (heads .entry))) ⌝ }
+    ensures { λ _. ⌜ lent (now (memory .exit)) (now (rows .exit)) (now (entries .entry)) (now (heads .exit))
+        ≡ servedIf s turn b (lent (now (memory .entry)) (now (rows .entry)) (now (entries .entry)) (now (heads .entry))) ⌝ }
 {
     if b % (s.m as usize) == turn as usize {
         serve_bank(s, b, memory, rows, entries, heads);
@@ -71,7 +73,8 @@ pub fn serve(
     heads: &mut [u32],
 )
     requires { ⌜ Good s (lent (now memory) (now rows) (now entries) (now heads)) ⌝ }
-    ensures { λ _. ⌜ lent (now (memory .exit)) (now (rows .exit)) (now (entries .entry)) (now (heads .exit)) ≡ served s turn (lent (now (memory .entry)) (now (rows .entry)) (now (entries .entry)) (now (heads .entry))) ⌝ }
+    ensures { λ _. ⌜ lent (now (memory .exit)) (now (rows .exit)) (now (entries .entry)) (now (heads .exit))
+        ≡ served s turn (lent (now (memory .entry)) (now (rows .entry)) (now (entries .entry)) (now (heads .entry))) ⌝ }
 {
     let banks = s.banks() as usize;
     let mut b = heads::next_waiting(heads, 0, banks);
