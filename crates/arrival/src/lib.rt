@@ -81,7 +81,8 @@ fn plan(s: Setup, position: u32, op: Operation, rows: &[u32]) -> Plan
 // Places what is to be placed. False where its buffer is full.
 fn place_if(s: Setup, p: Placing, entries: &mut [u32], heads: &mut [u32]) -> bool
     requires { ⌜ EachBuffer s (buffersIn (now entries) (now heads)) ⌝ }
-    ensures { λ ok. ⌜ (ok, buffersIn (now (entries .exit)) (now (heads .exit))) ≡ placedIf s p (buffersIn (now (entries .entry)) (now (heads .entry))) ⌝ }
+    ensures { λ ok. ⌜ (ok, buffersIn (now (entries .exit)) (now (heads .exit)))
+        ≡ placedIf s p (buffersIn (now (entries .entry)) (now (heads .entry))) ⌝ }
 {
     let Placing::OneEntry(e) = p else {
         return true;
@@ -98,8 +99,10 @@ fn arrive(
     entries: &mut [u32],
     heads: &mut [u32],
 ) -> bool
-    requires { ⌜ (length (now rows) ≡ lengthsOf s .rows) × EachBuffer s (buffersIn (now entries) (now heads)) × (position < s .c) ⌝ }
-    ensures { λ taken. ⌜ (taken, (now (rows .exit), buffersIn (now (entries .exit)) (now (heads .exit)))) ≡ arrived s position plan (now (rows .entry)) (buffersIn (now (entries .entry)) (now (heads .entry))) ⌝ }
+    requires { ⌜ (length (now rows) ≡ lengthsOf s .rows) × EachBuffer s (buffersIn (now entries) (now heads))
+        × (position < s .c) ⌝ }
+    ensures { λ taken. ⌜ (taken, (now (rows .exit), buffersIn (now (entries .exit)) (now (heads .exit))))
+        ≡ arrived s position plan (now (rows .entry)) (buffersIn (now (entries .entry)) (now (heads .entry))) ⌝ }
 {
     let placing = plan.placing;
     let taken = place_if(s, placing, entries, heads);
@@ -121,8 +124,11 @@ fn take(
     entries: &mut [u32],
     heads: &mut [u32],
 ) -> bool
-    requires { ⌜ Ranges s × (length (now rows) ≡ lengthsOf s .rows) × EachBuffer s (buffersIn (now entries) (now heads)) × (position < s .c) ⌝ }
-    ensures { λ taken. ⌜ (taken, (now (rows .exit), buffersIn (now (entries .exit)) (now (heads .exit)))) ≡ arrived s position (planned s position op (now (rows .entry))) (now (rows .entry)) (buffersIn (now (entries .entry)) (now (heads .entry))) ⌝ }
+    requires { ⌜ Ranges s × (length (now rows) ≡ lengthsOf s .rows)
+        × EachBuffer s (buffersIn (now entries) (now heads)) × (position < s .c) ⌝ }
+    ensures { λ taken. ⌜ (taken, (now (rows .exit), buffersIn (now (entries .exit)) (now (heads .exit))))
+        ≡ arrived s position (planned s position op (now (rows .entry))) (now (rows .entry))
+        (buffersIn (now (entries .entry)) (now (heads .entry))) ⌝ }
 {
     if let Operation::Write(a, word) = op {
         return arrive(
@@ -149,8 +155,11 @@ fn land(
     entries: &mut [u32],
     heads: &mut [u32],
 ) -> Cycled
-    requires { ⌜ Ranges s × (length (now rows) ≡ lengthsOf s .rows) × EachBuffer s (buffersIn (now entries) (now heads)) × (t .turn < s .m) × (t .position < s .c) ⌝ }
-    ensures { λ r. ⌜ (r, (now (rows .exit), buffersIn (now (entries .exit)) (now (heads .exit)))) ≡ going s t (planned s (t .position) op (now (rows .entry))) delivery (now (rows .entry)) (placedIf s retiring (buffersIn (now (entries .entry)) (now (heads .entry)))) ⌝ }
+    requires { ⌜ Ranges s × (length (now rows) ≡ lengthsOf s .rows)
+        × EachBuffer s (buffersIn (now entries) (now heads)) × (t .turn < s .m) × (t .position < s .c) ⌝ }
+    ensures { λ r. ⌜ (r, (now (rows .exit), buffersIn (now (entries .exit)) (now (heads .exit))))
+        ≡ going s t (planned s (t .position) op (now (rows .entry))) delivery (now (rows .entry))
+        (placedIf s retiring (buffersIn (now (entries .entry)) (now (heads .entry)))) ⌝ }
 {
     if place_if(s, retiring, entries, heads) {
         let taken = take(s, t.position, op, rows, entries, heads);
@@ -168,8 +177,10 @@ pub fn go_on(
     entries: &mut [u32],
     heads: &mut [u32],
 ) -> Cycled
-    requires { ⌜ Ranges s × (length (now rows) ≡ lengthsOf s .rows) × GoodBuffers s (buffersIn (now entries) (now heads)) × (t .turn < s .m) × (t .position < s .c) ⌝ }
-    ensures { λ r. ⌜ (r, (now (rows .exit), buffersIn (now (entries .exit)) (now (heads .exit)))) ≡ afterService s t op (now (rows .entry)) (buffersIn (now (entries .entry)) (now (heads .entry))) ⌝ }
+    requires { ⌜ Ranges s × (length (now rows) ≡ lengthsOf s .rows)
+        × GoodBuffers s (buffersIn (now entries) (now heads)) × (t .turn < s .m) × (t .position < s .c) ⌝ }
+    ensures { λ r. ⌜ (r, (now (rows .exit), buffersIn (now (entries .exit)) (now (heads .exit))))
+        ≡ afterService s t op (now (rows .entry)) (buffersIn (now (entries .entry)) (now (heads .entry))) ⌝ }
 {
     let delivery = deliver(s, t.position as usize, rows);
     let retiring = give_up(s, t.position as usize, rows);

@@ -39,7 +39,8 @@ fn run_part(
     input: &mut [u8],
     out: &mut [u8],
 ) -> Run
-    requires { ⌜ (now table ≡ pairTable) × (lineMost * recordsIn (length (now input)) ≤ length (now out)) × (run .number + recordsIn (length (now input)) < 2 ^ 64) ⌝ }
+    requires { ⌜ (now table ≡ pairTable) × (lineMost * recordsIn (length (now input)) ≤ length (now out))
+        × (run .number + recordsIn (length (now input)) < 2 ^ 64) ⌝ }
     ensures { λ r. ⌜ r .number ≤ run .number + recordsIn (length (now (input .entry))) ⌝ }
 {
     let n = io::read_full(STDIN_FILENO, input);
@@ -76,7 +77,9 @@ fn run_all(
     input: &mut [u8],
     out: &mut [u8],
 )
-    requires { ⌜ Opened s × (lent (now memory) (now rows) (now entries) (now heads) ≡ zerosFor s) × (now table ≡ pairTable) × (recordsIn (length (now input)) ≤ partMost) × (lineMost * partMost ≤ length (now out)) ⌝ }
+    requires { ⌜ Opened s × (lent (now memory) (now rows) (now entries) (now heads) ≡ zerosFor s)
+        × (now table ≡ pairTable) × (recordsIn (length (now input)) ≤ partMost)
+        × (lineMost * partMost ≤ length (now out)) ⌝ }
 {
     let mut r = replay::begin(s, memory, rows, entries, heads);
     let mut parts = MOST_PARTS;
@@ -97,7 +100,9 @@ fn cut(
     input: &mut [u8],
     out: &mut [u8],
 )
-    requires { ⌜ Opened s × (lent (now memory) (now rows) (now entries) (now heads) ≡ wholeRoom) × (now table ≡ pairTable) × (recordsIn (length (now input)) ≤ partMost) × (lineMost * partMost ≤ length (now out)) ⌝ }
+    requires { ⌜ Opened s × (lent (now memory) (now rows) (now entries) (now heads) ≡ wholeRoom)
+        × (now table ≡ pairTable) × (recordsIn (length (now input)) ≤ partMost)
+        × (lineMost * partMost ≤ length (now out)) ⌝ }
 {
     let words = s.words() as usize;
     let banks = s.banks() as usize;

@@ -69,7 +69,8 @@ fn waiting_ok(s: Setup, n: u32, b: usize, entries: &[u32], heads: &[u32]) -> boo
 
 // Of each of the B buffers, whose heads are in range, the entries that wait; of n words.
 fn each_ok(s: Setup, n: u32, banks: usize, entries: &[u32], heads: &[u32]) -> bool
-    requires { ⌜ Ranges s × Room s (buffersIn (now entries) (now heads)) × HeadsOk s (now heads) × (n ≡ wordsOf s) × (banks ≡ banksOf s) ⌝ }
+    requires { ⌜ Ranges s × Room s (buffersIn (now entries) (now heads)) × HeadsOk s (now heads) × (n ≡ wordsOf s)
+        × (banks ≡ banksOf s) ⌝ }
     ensures { λ r. ⌜ r ≡ buffersOk s (buffersIn (now (entries .entry)) (now (heads .entry))) (banksOf s) ⌝ }
 {
     let mut b = next_waiting(heads, 0, banks);
@@ -95,7 +96,8 @@ fn crowded(s: Setup, banks: usize, heads: &[u32]) -> bool
 
 // The same: where many wait, yes at once if every place of the entry room is in range as it stands, whether it waits or not.
 fn all_ok(s: Setup, n: u32, banks: usize, entries: &[u32], heads: &[u32]) -> bool
-    requires { ⌜ Ranges s × Room s (buffersIn (now entries) (now heads)) × HeadsOk s (now heads) × (n ≡ wordsOf s) × (banks ≡ banksOf s) ⌝ }
+    requires { ⌜ Ranges s × Room s (buffersIn (now entries) (now heads)) × HeadsOk s (now heads) × (n ≡ wordsOf s)
+        × (banks ≡ banksOf s) ⌝ }
     ensures { λ r. ⌜ r ≡ buffersOk s (buffersIn (now (entries .entry)) (now (heads .entry))) (banksOf s) ⌝ }
 {
     if crowded(s, banks, heads) {

@@ -55,7 +55,8 @@ fn fill_few(rows: &mut [u32], c: usize, from: usize, to: usize, p: u32, w: u32)
 // The rows from one place up to another that is at most a block on, where row p has its word:
 // row by row only where one of the block names row p.
 fn fill_block(rows: &mut [u32], c: usize, from: usize, to: usize, p: u32, w: u32)
-    requires { ⌜ (length (now rows) ≡ rowNumbers * c) × (block ≤ c) × (from ≤ to) × (to ≤ c) × (to ≤ from + block) × (c ≤ 4096) × Has c p (now rows) ⌝ }
+    requires { ⌜ (length (now rows) ≡ rowNumbers * c) × (block ≤ c) × (from ≤ to) × (to ≤ c) × (to ≤ from + block)
+        × (c ≤ 4096) × Has c p (now rows) ⌝ }
     ensures { λ _. ⌜ now (rows .exit) ≡ filledFrom c p w from (to - from) (now (rows .entry)) ⌝ }
 {
     let at = Row::LINKS * c + flat::block_of(to);

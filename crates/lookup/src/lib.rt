@@ -103,7 +103,8 @@ fn block_with(position: usize, c: usize) -> usize
 
 // Whether a row of the block from place `low` on, other than the row at the position, has the address.
 fn near(rows: &[u32], c: usize, position: usize, low: usize, a: Address) -> bool
-    requires { ⌜ (length (now rows) ≡ rowNumbers * c) × (low ≤ position) × (position < low + block) × (low + block ≤ c) ⌝ }
+    requires { ⌜ (length (now rows) ≡ rowNumbers * c) × (low ≤ position) × (position < low + block)
+        × (low + block ≤ c) ⌝ }
     ensures { λ yes. ⌜ (yes ≡ false → Alone c position low (a .0) (now (rows .entry))) ⌝ }
 {
     let at = Row::ADDRESSES * c + low;

@@ -192,7 +192,8 @@ pub fn part(
     table: &[u8; decimal::PAIRS],
     out: &mut [u8],
 ) -> Run
-    requires { ⌜ (now table ≡ pairTable) × (lineMost * recordsIn (length (now input)) ≤ length (now out)) × (run .number + recordsIn (length (now input)) < 2 ^ 64) ⌝ }
+    requires { ⌜ (now table ≡ pairTable) × (lineMost * recordsIn (length (now input)) ≤ length (now out))
+        × (run .number + recordsIn (length (now input)) < 2 ^ 64) ⌝ }
     ensures { λ r. ⌜ ((r, (lent (now (memory .exit)) (now (rows .exit)) (now (entries .exit)) (now (heads .exit)), now (out .exit)))
         ≡ putAt (now (out .entry)) 0 (listed s (now (input .entry)) (listedFrom run (lent (now (memory .entry)) (now (rows .entry)) (now (entries .entry)) (now (heads .entry))))))
         × (r .end ≤ length (now (out .exit))) ⌝ }

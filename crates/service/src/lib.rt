@@ -11,7 +11,8 @@ use setup::Setup;
 
 // Carries an entry out: a write stores its word at its cell; a read's word goes to its row and to every row waiting on that row.
 fn carry(s: Setup, e: Entry, memory: &mut [u32], rows: &mut [u32])
-    requires { ⌜ (length (now rows) ≡ lengthsOf s .rows) × (s .c ≤ 4096) × (e .cell .0 < length (now memory)) × ((e .kind ≡ writeEntry → ⊥) → e .row < s .c) ⌝ }
+    requires { ⌜ (length (now rows) ≡ lengthsOf s .rows) × (s .c ≤ 4096) × (e .cell .0 < length (now memory))
+        × ((e .kind ≡ writeEntry → ⊥) → e .row < s .c) ⌝ }
     ensures { λ _. ⌜ (now (memory .exit), now (rows .exit)) ≡ carried s e (now (memory .entry), now (rows .entry)) ⌝ }
 {
     let at = e.cell.0 as usize;
