@@ -2,7 +2,7 @@
 use Prim.Native.Nat.{ℕ}
 use mathlib.Core.Path.{_≡_}
 use mathlib.Core.List.{List, [], _∷_, map}
-use lib.ListN.{getD, take, replicate}
+use lib.ListN.{getD, take}
 use Rattle.setup.specs.Setup.{withDefaults}
 use Rattle.setup.specs.declared.Setup.{Setup}
 use Rattle.port.specs.declared.Operation.{Operation}
@@ -10,8 +10,7 @@ use Rattle.port.specs.declared.Operation.the-variants.{Idle, Read, Write}
 use Rattle.port.specs.declared.Delivery.{Delivery}
 use Rattle.port.specs.declared.Delivery.the-variants.{None, Word}
 use Rattle.port.specs.declared.Reply.{Reply}
-use Rattle.model.specs.Lent.{lent}
-use Rattle.model.specs.Range.{lengthsOf}
+use Rattle.model.specs.Range.{lengthsOf, zeroed}
 use Rattle.model.specs.Calls.{freshState}
 use Rattle.model.specs.Runs.{Machine, replies, fresh}
 use Rattle.model.specs.Sram.{sram}
@@ -20,8 +19,7 @@ use Rattle.model.specs.Promises.{reached, startWord, history}
 -- rooms of zeros for a setup
 abbrev pub zeros : Setup → Machine
 zeros g =
-    let due = lengthsOf (withDefaults g) in
-    (freshState, lent (replicate (due .memory) 0) (replicate (due .rows) 0) (replicate (due .entries) 0) (replicate (due .heads) 0))
+    (freshState, zeroed (lengthsOf (withDefaults g)))
 
 -- the answers and deliveries of a run over them
 abbrev pub heard : Setup → List Operation → List (ℕ × Delivery)

@@ -3,7 +3,7 @@ use Prim.Native.Nat.{ℕ, zero, suc, _+_, _*_, _<_}
 use mathlib.Core.Bool.{Bool, true, not, _&&_, _||_}
 use mathlib.Core.List.{List}
 use lib.Dec.{leb, ltb, eqb}
-use lib.ListN.{length}
+use lib.ListN.{length, replicate}
 use mathlib.Core.Path.{_≡_}
 use Rattle.setup.specs.Setup.{Ranges, wordsOf, banksOf}
 use Rattle.setup.specs.declared.Setup.{Setup}
@@ -14,17 +14,19 @@ use Rattle.model.specs.declared.Entry.{Entry}
 use Rattle.model.specs.declared.Found.{Found}
 use Rattle.model.specs.declared.Found.the-variants.{At, Nothing}
 use Rattle.rings.specs.Places.{onward}
-use Rattle.model.specs.Lent.{Lent, Buffers, rowNumbers, entryNumbers, headNumbers, emptyKind, waitingKind, rowAt, readEntry, writeEntry, entryAt, oldestOf, countOf}
+use Rattle.model.specs.Lent.{Lent, lent, Buffers, rowNumbers, entryNumbers, headNumbers, emptyKind, waitingKind, rowAt, readEntry, writeEntry, entryAt, oldestOf, countOf}
+
+-- n words, c rows, p entries and b heads
+abbrev pub lengthsFor : (n c p b : ℕ) → Lengths
+lengthsFor n c p b = record { memory = n; rows = rowNumbers * c; entries = entryNumbers * p; heads = headNumbers * b }
 
 -- memory of N words, room for C rows and room for B·K entries, and a head a bank
 abbrev pub lengthsOf : Setup → Lengths
-lengthsOf s =
-    record {
-      memory = wordsOf s;
-      rows = rowNumbers * s .c;
-      entries = entryNumbers * (banksOf s * s .k);
-      heads = headNumbers * banksOf s;
-    }
+lengthsOf s = lengthsFor (wordsOf s) (s .c) (banksOf s * s .k) (banksOf s)
+
+-- slices of these lengths, every number zero
+abbrev pub zeroed : Lengths → Lent
+zeroed due = lent (replicate (due .memory) 0) (replicate (due .rows) 0) (replicate (due .entries) 0) (replicate (due .heads) 0)
 
 -- every length must be exact
 abbrev pub lengthsOk : Setup → Lent → Bool

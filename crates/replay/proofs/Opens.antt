@@ -17,7 +17,7 @@ use Rattle.setup.specs.declared.Checked.{Checked}
 use Rattle.setup.proofs.Ranges.{and-l, and-r, good-ranges, banks-most}
 use Rattle.model.specs.declared.State.{State}
 use Rattle.model.specs.declared.Started.{Started}
-use Rattle.model.specs.Lent.{Lent, lent}
+use Rattle.model.specs.Lent.{rowNumbers, entryNumbers, headNumbers, Lent, lent}
 use Rattle.model.specs.Range.{lengthsOk}
 use Rattle.model.specs.Calls.{exactIn, started, freshState, freshIn, freshOf}
 use Rattle.setuprecord.specs.SetupRecord.{setupOf}
@@ -134,41 +134,41 @@ module _ (s : Setup) (memory rows entries heads : List ℕ) (o : Opened s) (x : 
   words-most : wordsOf s ≤ 2 ^ mostA
   words-most = let l : s .a ≤ mostA = search (and-l, and-r, leb-true) depth 12 in pow-mono l
 
-  rows-most : 4 * s .c ≤ 4 * mostC
+  rows-most : rowNumbers * s .c ≤ rowNumbers * mostC
   rows-most = let l : s .c ≤ mostC = search (and-l, and-r, leb-true) depth 12 in omega arith
 
-  entries-most : 4 * (banksOf s * s .k) ≤ 4 * mostPlaces
+  entries-most : entryNumbers * (banksOf s * s .k) ≤ entryNumbers * mostPlaces
   entries-most = let l : banksOf s * s .k ≤ mostPlaces = search (and-l, and-r, leb-true) depth 12 in omega arith
 
-  heads-most : 2 * banksOf s ≤ 2 * mostBanks
+  heads-most : headNumbers * banksOf s ≤ headNumbers * mostBanks
   heads-most = omega (arith, banks-most s (o .ranges .sizes))
 
   pub words-within : (w : ℕ) → w ≡ wordsOf s → w ≤ length memory
   words-within w e = within (2 ^ mostA) memory (ap (λ (y : Lent). y .memory) x) w (wordsOf s) e words-most
 
-  pub rows-within : 4 * s .c ≤ length rows
-  rows-within = within (4 * mostC) rows (ap (λ (y : Lent). y .rows) x) (4 * s .c) (4 * s .c) refl rows-most
+  pub rows-within : rowNumbers * s .c ≤ length rows
+  rows-within = within (rowNumbers * mostC) rows (ap (λ (y : Lent). y .rows) x) (rowNumbers * s .c) (rowNumbers * s .c) refl rows-most
 
-  pub entries-within : (b : ℕ) → b ≡ banksOf s → 4 * (b * s .k) ≤ length entries
+  pub entries-within : (b : ℕ) → b ≡ banksOf s → entryNumbers * (b * s .k) ≤ length entries
   entries-within b e =
-      within (4 * mostPlaces) entries (ap (λ (y : Lent). y .buffers .entries) x) (4 * (b * s .k)) (4 * (banksOf s * s .k)) (ap (λ (n : ℕ). 4 * (n * s .k)) e) entries-most
+      within (entryNumbers * mostPlaces) entries (ap (λ (y : Lent). y .buffers .entries) x) (entryNumbers * (b * s .k)) (entryNumbers * (banksOf s * s .k)) (ap (λ (n : ℕ). entryNumbers * (n * s .k)) e) entries-most
 
-  pub heads-within : (b : ℕ) → b ≡ banksOf s → 2 * b ≤ length heads
+  pub heads-within : (b : ℕ) → b ≡ banksOf s → headNumbers * b ≤ length heads
   heads-within b e =
-      within (2 * mostBanks) heads (ap (λ (y : Lent). y .buffers .heads) x) (2 * b) (2 * banksOf s) (ap (λ (n : ℕ). 2 * n) e) heads-most
+      within (headNumbers * mostBanks) heads (ap (λ (y : Lent). y .buffers .heads) x) (headNumbers * b) (headNumbers * banksOf s) (ap (λ (n : ℕ). headNumbers * n) e) heads-most
 
   pub room-cut : (w b : ℕ) → w ≡ wordsOf s → b ≡ banksOf s
-      → lent (take w memory) (take (4 * s .c) rows) (take (4 * (b * s .k)) entries) (take (2 * b) heads) ≡ zerosFor s
+      → lent (take w memory) (take (rowNumbers * s .c) rows) (take (entryNumbers * (b * s .k)) entries) (take (headNumbers * b) heads) ≡ zerosFor s
   room-cut w b ew eb =
-      let cut : Lent → Lent = λ y. lent (take w (y .memory)) (take (4 * s .c) (y .rows)) (take (4 * (b * s .k)) (y .buffers .entries)) (take (2 * b) (y .buffers .heads)) in
+      let cut : Lent → Lent = λ y. lent (take w (y .memory)) (take (rowNumbers * s .c) (y .rows)) (take (entryNumbers * (b * s .k)) (y .buffers .entries)) (take (headNumbers * b) (y .buffers .heads)) in
       ap cut x
       ∙ rw (
         ew,
         eb,
         take-replicate 0 (wordsOf s) (2 ^ mostA) words-most,
-        take-replicate 0 (4 * s .c) (4 * mostC) rows-most,
-        take-replicate 0 (4 * (banksOf s * s .k)) (4 * mostPlaces) entries-most,
-        take-replicate 0 (2 * banksOf s) (2 * mostBanks) heads-most,
+        take-replicate 0 (rowNumbers * s .c) (rowNumbers * mostC) rows-most,
+        take-replicate 0 (entryNumbers * (banksOf s * s .k)) (entryNumbers * mostPlaces) entries-most,
+        take-replicate 0 (headNumbers * banksOf s) (headNumbers * mostBanks) heads-most,
       )
 
 ------------------------------------------------------------------------
@@ -179,13 +179,13 @@ zeros-exact : (s : Setup) → lengthsOk s (zerosFor s) ≡ true
 zeros-exact s =
     rw (
       length-replicate (wordsOf s) zero,
-      length-replicate (4 * s .c) zero,
-      length-replicate (4 * (banksOf s * s .k)) zero,
-      length-replicate (2 * banksOf s) zero,
+      length-replicate (rowNumbers * s .c) zero,
+      length-replicate (entryNumbers * (banksOf s * s .k)) zero,
+      length-replicate (headNumbers * banksOf s) zero,
       eq-eqb (wordsOf s) (wordsOf s) refl,
-      eq-eqb (4 * s .c) (4 * s .c) refl,
-      eq-eqb (4 * (banksOf s * s .k)) (4 * (banksOf s * s .k)) refl,
-      eq-eqb (2 * banksOf s) (2 * banksOf s) refl,
+      eq-eqb (rowNumbers * s .c) (rowNumbers * s .c) refl,
+      eq-eqb (entryNumbers * (banksOf s * s .k)) (entryNumbers * (banksOf s * s .k)) refl,
+      eq-eqb (headNumbers * banksOf s) (headNumbers * banksOf s) refl,
     )
 
 pub begins : (s : Setup) (t : State) (x y : Lent) (r : Started) → Opened s → x ≡ zerosFor s → (r, y) ≡ freshOf s t x

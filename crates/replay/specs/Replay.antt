@@ -4,15 +4,16 @@ use mathlib.Core.Path.{_≡_}
 use mathlib.Core.Bool.{Bool, true, false, _&&_}
 use mathlib.Core.List.{List, [], _∷_, _++_}
 use lib.Dec.{leb}
-use lib.ListN.{length, take, drop, replicate}
+use lib.ListN.{length, take, drop}
 use Rattle.answers.specs.Answers.{badSetup, roomTooSmall, badRecord}
 use Rattle.choice.specs.Choice.{pick}
-use Rattle.setup.specs.Setup.{Ranges, checkedOf, wordsOf, banksOf}
+use Rattle.setup.specs.Setup.{Ranges, checkedOf, banksOf}
 use Rattle.setup.specs.declared.Setup.{Setup}
 use Rattle.setup.specs.declared.Checked.{Checked}
 use Rattle.port.specs.declared.Delivery.{Delivery}
 use Rattle.model.specs.declared.State.{State}
-use Rattle.model.specs.Lent.{Lent, lent}
+use Rattle.model.specs.Lent.{Lent}
+use Rattle.model.specs.Range.{lengthsFor, lengthsOf, zeroed}
 use Rattle.model.specs.Calls.{freshState}
 use Rattle.model.specs.Runs.{Machine, after, replyOf}
 use Rattle.records.specs.Records.{operationSize, operationOf}
@@ -103,12 +104,8 @@ listed s input x = listedBelow s input (recordsIn (length input)) x
 ------------------------------------------------------------------------
 -- The whole run, over memory of zeros
 
--- n words, c rows, p places in all and b banks, every number zero
-abbrev pub zerosIn : (n c p b : ℕ) → Lent
-zerosIn n c p b = lent (replicate n 0) (replicate (4 * c) 0) (replicate (4 * p) 0) (replicate (2 * b) 0)
-
 abbrev pub zerosFor : Setup → Lent
-zerosFor s = zerosIn (wordsOf s) (s .c) (banksOf s * s .k) (banksOf s)
+zerosFor s = zeroed (lengthsOf s)
 
 -- no setup has more banks
 abbrev pub mostBanks : ℕ
@@ -116,7 +113,7 @@ mostBanks = 2 ^ 6
 
 -- the program's whole room
 abbrev pub wholeRoom : Lent
-wholeRoom = zerosIn (2 ^ mostA) mostC mostPlaces mostBanks
+wholeRoom = zeroed (lengthsFor (2 ^ mostA) mostC mostPlaces mostBanks)
 
 abbrev pub firstOf : Setup → Listed
 firstOf s = record { text = []; number = 0; on = true; machine = (freshState, zerosFor s) }

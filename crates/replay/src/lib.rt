@@ -8,6 +8,9 @@ ghost use Rattle.records.specs.Records.{operationOf};
 ghost use Rattle.decimal.specs.Decimal.{ten, pairTable};
 ghost use Rattle.listing.specs.Listing.{lineMost};
 ghost use Rattle.replay.specs.Replay.{roomFor, openingOf, setupLine, recordsIn, withRecord, listed, listedFrom, putAt, putLine, zerosFor, Opened, begun};
+use model::Entry;
+use model::Head;
+use model::Row;
 use model::State;
 use port::Delivery;
 use records::OperationRecord;
@@ -39,14 +42,16 @@ const MOST_C: u16 = 1024;
 
 const MOST_PLACES: u32 = 1024;
 
-// What holds them: a word a cell, four numbers a row and an entry, two a bank.
+const MOST_BANKS: usize = 64;
+
+// What holds them.
 pub const WORDS: usize = 4096;
 
-pub const ROW_NUMBERS: usize = 4096;
+pub const ROW_NUMBERS: usize = Row::NUMBERS * (MOST_C as usize);
 
-pub const ENTRY_NUMBERS: usize = 4096;
+pub const ENTRY_NUMBERS: usize = Entry::NUMBERS * (MOST_PLACES as usize);
 
-pub const HEAD_NUMBERS: usize = 128;
+pub const HEAD_NUMBERS: usize = Head::NUMBERS * MOST_BANKS;
 
 // `setup`, a space, a digit and a newline.
 pub const SETUP_LINE: usize = 8;

@@ -12,7 +12,7 @@ use Rattle.theory.proofs.Test.{same, lt, Says, is, isnt, lt?, same?, sa
 use Rattle.theory.proofs.Operations.{read, Setup}
 use Rattle.theory.proofs.Machine.{Entry, rd, Row, none, put, got, wait, St, nothing, there, names, writes, look, newer, fill, filled, shape}
 use Rattle.theory.proofs.Table.{back, atPlace, lookBack, newerBack, fillAt, fillFrom, foundAt}
-use Rattle.theory.proofs.Turns.{mod-inj}
+use Rattle.theory.proofs.Turns.{remainder-inj}
 use Rattle.theory.proofs.Keeps.{Taken, Base, RowOk}
 use Rattle.theory.proofs.Queue.{stands-time, InTime}
 
@@ -65,7 +65,7 @@ module _ (W : Type 0) (rest : ℕ) where
           let m : t % suc rest < length tab = omega (arith, k .size, mod-lt t {m = suc rest} (omega arith)) in
           rw (← p) (getD-set-same tab (t % suc rest) _ none m)
       go r h l y (isnt f) =
-          let n : r % suc rest ≢ t % suc rest = λ e. f (sym (mod-inj (suc rest) r t (omega arith) (omega arith) e)) in
+          let n : r % suc rest ≢ t % suc rest = λ e. f (sym (remainder-inj (suc rest) r t (omega arith) (omega arith) e)) in
           getD-set-other tab (t % suc rest) (r % suc rest) _ none n ∙ k .live r (omega arith) (omega arith)
 
   ----------------------------------------------------------------------
@@ -142,8 +142,8 @@ live-inj : (rest t a b : ℕ) → a < t → t ≤ a + suc rest → b < t → t �
 live-inj rest t a b h₁ l₁ h₂ l₂ e = go (lt a b) (lt? a b)
   where
     go : (x : Bool) → Says (a < b) x → a ≡ b
-    go x (is p) = mod-inj (suc rest) a b (omega arith) (omega arith) e
-    go x (isnt p) = sym (mod-inj (suc rest) b a (omega arith) (omega arith) (sym e))
+    go x (is p) = remainder-inj (suc rest) a b (omega arith) (omega arith) e
+    go x (isnt p) = sym (remainder-inj (suc rest) b a (omega arith) (omega arith) (sym e))
 
 module _ (W : Type 0) (g : Setup) (m : ℕ) (Addr : ℕ → Type 0) (ta : Taken W Addr)
     (b t : ℕ) (nx : ℕ → ℕ) (s : St W) (i : Base W g m Addr ta nx t t s) (ahead : (a : ℕ) → t ≤ nx (g .bank a)) (long : g .delay ≤ suc (g .rest)) where

@@ -13,8 +13,8 @@ apart : (m p q r : ℕ) → p < q → p * m + r + m ≤ q * m + r
 apart m p q r h = let k : suc p * m ≤ q * m = mul-le-mul-right m h in omega (arith, suc-mul p m)
 
 -- two numbers less than m apart that agree modulo m are one; so a live row's place determines its cycle
-pub mod-inj : (m a b : ℕ) → a ≤ b → b < a + m → a % m ≡ b % m → a ≡ b
-mod-inj m a b le l e = go (lt (a / m) (b / m)) (lt (b / m) (a / m)) (lt? _ _) (lt? _ _)
+pub remainder-inj : (m a b : ℕ) → a ≤ b → b < a + m → a % m ≡ b % m → a ≡ b
+remainder-inj m a b le l e = go (lt (a / m) (b / m)) (lt (b / m) (a / m)) (lt? _ _) (lt? _ _)
   where
     da : a / m * m + a % m ≡ a
     da = div-add-mod' a m
@@ -70,7 +70,7 @@ module _ (m B : ℕ) where
   next-on-turn pos b h (suc t) = rw (lt-true h) (go (next b t) (next-on-turn pos b h t) (same (b % m) (t % m)) (same? _ _))
     where
       go : (n : ℕ) → OnTurn b t n → (x : Bool) → Says (b % m ≡ t % m) x → OnTurn b (suc t) (cond x (n + m) n)
-      go n k x (is p) = let s : t ≡ n = mod-inj m t n (k .1) (k .2) (sym p ∙ sym (k .0)) in (add-mod-right n m ∙ k .0, omega arith, omega arith)
+      go n k x (is p) = let s : t ≡ n = remainder-inj m t n (k .1) (k .2) (sym p ∙ sym (k .0)) in (add-mod-right n m ∙ k .0, omega arith, omega arith)
       go n k x (isnt f) = let s : t ≢ n = λ e. f (sym (k .0) ∙ ap (λ (z : ℕ). z % m) (sym e)) in (k .0, omega arith, omega arith)
 
   -- any bank rule into B banks
