@@ -81,7 +81,8 @@ fn plan(s: Setup, position: u32, op: Operation, rows: &[u32]) -> Plan
 // Places what is to be placed. False where its buffer is full.
 fn place_if(s: Setup, p: Placing, entries: &mut [u32], heads: &mut [u32]) -> bool
     requires { ⌜ EachBuffer s (buffersIn (now entries) (now heads)) ⌝ }
-    ensures { λ ok. ⌜ (ok, buffersIn (now (entries .exit)) (now (heads .exit))) ≡ placedIf s p (buffersIn (now (entries .entry)) (now (heads .entry))) ⌝ }
+    ensures { λ ok. ⌜ (ok, buffersIn (now (entries .exit)) (now (heads .exit)))
+        ≡ placedIf s p (buffersIn (now (entries .entry)) (now (heads .entry))) ⌝ }
 {
     let Placing::OneEntry(e) = p else {
         return true;
@@ -99,7 +100,8 @@ fn arrive(
     heads: &mut [u32],
 ) -> bool
     requires { ⌜ (length (now rows) ≡ 4 * s .c) × EachBuffer s (buffersIn (now entries) (now heads)) × (position < s .c) ⌝ }
-    ensures { λ taken. ⌜ (taken, (now (rows .exit), buffersIn (now (entries .exit)) (now (heads .exit)))) ≡ arrived s position plan (now (rows .entry)) (buffersIn (now (entries .entry)) (now (heads .entry))) ⌝ }
+    ensures { λ taken. ⌜ (taken, (now (rows .exit), buffersIn (now (entries .exit)) (now (heads .exit))))
+        ≡ arrived s position plan (now (rows .entry)) (buffersIn (now (entries .entry)) (now (heads .entry))) ⌝ }
 {
     let placing = plan.placing;
     let taken = place_if(s, placing, entries, heads);
@@ -122,7 +124,8 @@ fn take(
     heads: &mut [u32],
 ) -> bool
     requires { ⌜ Ranges s × (length (now rows) ≡ 4 * s .c) × EachBuffer s (buffersIn (now entries) (now heads)) × (position < s .c) ⌝ }
-    ensures { λ taken. ⌜ (taken, (now (rows .exit), buffersIn (now (entries .exit)) (now (heads .exit)))) ≡ arrived s position (planned s position op (now (rows .entry))) (now (rows .entry)) (buffersIn (now (entries .entry)) (now (heads .entry))) ⌝ }
+    ensures { λ taken. ⌜ (taken, (now (rows .exit), buffersIn (now (entries .exit)) (now (heads .exit))))
+        ≡ arrived s position (planned s position op (now (rows .entry))) (now (rows .entry)) (buffersIn (now (entries .entry)) (now (heads .entry))) ⌝ }
 {
     if let Operation::Write(a, word) = op {
         return arrive(
@@ -150,7 +153,8 @@ fn land(
     heads: &mut [u32],
 ) -> Cycled
     requires { ⌜ Ranges s × (length (now rows) ≡ 4 * s .c) × EachBuffer s (buffersIn (now entries) (now heads)) × (t .turn < s .m) × (t .position < s .c) ⌝ }
-    ensures { λ r. ⌜ (r, (now (rows .exit), buffersIn (now (entries .exit)) (now (heads .exit)))) ≡ going s t (planned s (t .position) op (now (rows .entry))) delivery (now (rows .entry)) (placedIf s retiring (buffersIn (now (entries .entry)) (now (heads .entry)))) ⌝ }
+    ensures { λ r. ⌜ (r, (now (rows .exit), buffersIn (now (entries .exit)) (now (heads .exit))))
+        ≡ going s t (planned s (t .position) op (now (rows .entry))) delivery (now (rows .entry)) (placedIf s retiring (buffersIn (now (entries .entry)) (now (heads .entry)))) ⌝ }
 {
     if place_if(s, retiring, entries, heads) {
         let taken = take(s, t.position, op, rows, entries, heads);
@@ -169,7 +173,8 @@ pub fn go_on(
     heads: &mut [u32],
 ) -> Cycled
     requires { ⌜ Fit s (now rows) (now entries) (now heads) × (t .turn < s .m) × (t .position < s .c) ⌝ }
-    ensures { λ r. ⌜ (r, (now (rows .exit), buffersIn (now (entries .exit)) (now (heads .exit)))) ≡ afterService s t op (now (rows .entry)) (buffersIn (now (entries .entry)) (now (heads .entry))) ⌝ }
+    ensures { λ r. ⌜ (r, (now (rows .exit), buffersIn (now (entries .exit)) (now (heads .exit))))
+        ≡ afterService s t op (now (rows .entry)) (buffersIn (now (entries .entry)) (now (heads .entry))) ⌝ }
 {
     let delivery = deliver(s, t.position as usize, rows);
     let retiring = give_up(s, t.position as usize, rows);

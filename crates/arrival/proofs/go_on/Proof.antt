@@ -1,8 +1,7 @@
 -- `arrival::go_on` meets its contract: what is looked at and planned lands. The buffers of a good room are each as asked for. Assumes nothing.
-use Prim.Native.Nat.{ℕ, _-_, _*_, _<_}
+use Prim.Native.Nat.{ℕ, _-_, _<_}
 use native.Mathlib.Omega.{arith}
 use mathlib.Core.Path.{_≡_}
-use mathlib.Core.Bool.{Bool}
 use mathlib.Core.List.{List}
 use Rattle.setup.specs.declared.Setup.{Setup}
 use Rattle.setup.specs.Setup.{banksOf}
@@ -15,7 +14,7 @@ use Rattle.model.specs.Lent.{Buffers, buffersIn}
 use Rattle.model.specs.Cycle.{delivered, placedIf, givenUp, retired, planned, going, afterService}
 use Rattle.model.proofs.Range.{head-oldest, head-count}
 use Rattle.model.proofs.Rings.{part-within}
-use Rattle.buffers.specs.Bank.{Head, Buffer}
+use Rattle.buffers.specs.Bank.{Buffer}
 use Rattle.arrival.specs.Banks.{EachBuffer}
 use Rattle.arrival.specs.Known.{Fit}
 use borrow.Author.Needs.{needs}
