@@ -125,7 +125,7 @@ placed s e q =
     pick (eqb (countOf (q .heads) (bankOf (mapOf s) (e .cell))) (s .k)) (false, q)
     (true, placedAt s (bankOf (mapOf s) (e .cell)) e q)
 
--- what is placed, if anything is
+-- what is to be placed, if anything is
 abbrev pub placedIf : Setup → Placing → Buffers → Bool × Buffers
 placedIf s NoEntry q = (true, q)
 placedIf s (OneEntry e) q = placed s e q
@@ -181,6 +181,7 @@ mergedPlan s position a Nothing rows = readPlan s position a
 abbrev pub writePlan : Setup → Address → ℕ → Plan
 writePlan s a w = planWith (rowWith writeKind (a .0) w 0) (pick (merging s) NoEntry (OneEntry (writeOf s a w)))
 
+-- what the operation is to do, once the rows are looked at
 abbrev pub planned : Setup → ℕ → Operation → List ℕ → Plan
 planned s position Idle rows = planWith emptyRow NoEntry
 planned s position (Read a) rows =
@@ -195,7 +196,7 @@ Arrived = Bool × (List ℕ × Buffers)
 abbrev pub seated : Setup → ℕ → Row → List ℕ → Bool × Buffers → Arrived
 seated s position r rows (taken, q) = (taken, (putRow (s .c) rows position (pick taken r emptyRow), q))
 
--- as it is planned
+-- as planned: the operation is taken where this answers true
 unfoldable pub arrived : Setup → ℕ → Plan → List ℕ → Buffers → Arrived
 arrived s position p rows q = seated s position (p .row) rows (placedIf s (p .placing) q)
 
