@@ -1,3 +1,4 @@
+-- Demand 1: what is lent stays good, call after call, and a refusal comes exactly when and in the order that is written.
 pub mod Lent
 pub mod Range
 pub mod Rows
@@ -7,6 +8,8 @@ pub mod Service
 pub mod Arrival
 pub mod Ready
 pub mod Calls
+pub mod SignedRefusals
+-- The machine over lent slices is the theory's machine by position.
 pub mod Lists
 pub mod Config
 pub mod Shown
@@ -16,16 +19,19 @@ pub mod ShownBuffers
 pub mod ShownService
 pub mod ShownCycle
 pub mod Shows
+-- The ledger is the theory's machine by cycle number.
 pub mod Entered
 pub mod Cells
 pub mod Books
+-- Demand 2: machine and ledger reply alike, call after call.
 pub mod Starts
 pub mod Steps
 pub mod Follows
 pub mod Signed
 pub mod Tracks
+-- Demand 3: two ledgers that differ in depth alone.
 pub mod Deeper
 pub mod Depths
 pub mod SignedDepths
+-- Small runs, computed.
 pub mod Examples
-pub mod SignedRefusals

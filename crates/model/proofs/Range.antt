@@ -114,10 +114,10 @@ module _ (s : Setup) (q : Buffers) (b : ℕ) where
 ------------------------------------------------------------------------
 -- The tests of 2 and 3 are past exactly when the lent slices are good and turn and position in range
 
-pub good : (s : Setup) (x : Lent) → Ranges s → lengthsOk s x ≡ true → rowsOk (wordsOf s) (s .c) (x .rows) (s .c) ≡ true
+pub tests-good : (s : Setup) (x : Lent) → Ranges s → lengthsOk s x ≡ true → rowsOk (wordsOf s) (s .c) (x .rows) (s .c) ≡ true
     → buffersOk s (x .buffers) (banksOf s) ≡ true
     → Good s x
-good s x g lengths rows buffers =
+tests-good s x g lengths rows buffers =
     record {
       ranges = g;
       memory-long = search (and-l, and-r, eqb-true);
@@ -143,7 +143,7 @@ buffers-true s x g =
 pub ready : (s : Setup) (t : State) (x : Lent) → Ranges s → lengthsOk s x ≡ true → numbersOk s t (x .rows) (x .buffers) ≡ true → Ready s t x
 ready s t x g lengths numbers =
     record {
-      good = good s x g lengths (search (and-l, and-r)) (search (and-l, and-r));
+      good = tests-good s x g lengths (search (and-l, and-r)) (search (and-l, and-r));
       turn = search (and-l, and-r, ltb-true);
       position = search (and-l, and-r, ltb-true);
     }

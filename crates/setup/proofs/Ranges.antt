@@ -26,22 +26,22 @@ and-r false false h = h
 pub sizes : (s : Setup) → sizesOk s ≡ true → Sizes s
 sizes s h = search (and-l, and-r, leb-true) depth 12
 
-pub passed : (s : Setup) (t : Bool) → t ≡ sizesOk s → t ≡ true → Sizes s
-passed s t e h = sizes s (sym e ∙ h)
+pub passed-sizes : (s : Setup) (t : Bool) → t ≡ sizesOk s → t ≡ true → Sizes s
+passed-sizes s t e h = sizes s (sym e ∙ h)
 
-pub full-passed : (s f : Setup) (t : Bool) → t ≡ sizesOk s → t ≡ true → f ≡ withDefaults s → Sizes f
-full-passed s f t e h w = rw w (sizes (withDefaults s) (sym e ∙ h))
+pub full-sizes : (s f : Setup) (t : Bool) → t ≡ sizesOk s → t ≡ true → f ≡ withDefaults s → Sizes f
+full-sizes s f t e h w = rw w (sizes (withDefaults s) (sym e ∙ h))
 
 -- t and u are what the two tests answered, and f what the defaults gave
 module _ (s f : Setup) (t u : Bool) where
-  pub good : t ≡ sizesOk s → t ≡ true → f ≡ withDefaults s → u ≡ restOk f → u ≡ true → Good f ≡ checkedOf s
-  good e₁ h₁ e₂ e₃ h₂ = cc
+  pub checked-good : t ≡ sizesOk s → t ≡ true → f ≡ withDefaults s → u ≡ restOk f → u ≡ true → Good f ≡ checkedOf s
+  checked-good e₁ h₁ e₂ e₃ h₂ = cc
 
-  pub refused : t ≡ sizesOk s → t ≡ true → f ≡ withDefaults s → u ≡ restOk f → u ≡ false → Refused ≡ checkedOf s
-  refused e₁ h₁ e₂ e₃ h₂ = cc
+  pub checked-refused : t ≡ sizesOk s → t ≡ true → f ≡ withDefaults s → u ≡ restOk f → u ≡ false → Refused ≡ checkedOf s
+  checked-refused e₁ h₁ e₂ e₃ h₂ = cc
 
-pub too-large : (s : Setup) (t : Bool) → t ≡ sizesOk s → t ≡ false → Refused ≡ checkedOf s
-too-large s t e h = cc
+pub checked-too-large : (s : Setup) (t : Bool) → t ≡ sizesOk s → t ≡ false → Refused ≡ checkedOf s
+checked-too-large s t e h = cc
 
 -- What a caller knows of the setup that `checked` answered.
 ranges : (s : Setup) → inRange s ≡ true → Ranges s

@@ -14,7 +14,7 @@ use Rattle.theory.proofs.Concrete as N
 use Rattle.theory.proofs.Keeps.{Taken, Clock, GoodRun}
 use Rattle.theory.proofs.Turns.{clock}
 use Rattle.theory.proofs.Sim.{Sim, SimKept, same-length, sim-serve, sim-retire, sim-plan, sim-land, sim-deliver, planAt}
-use Rattle.theory.proofs.Runs.{taken, good}
+use Rattle.theory.proofs.Runs.{taken, run-good}
 
 module _ (W : Type 0) (k : Config) where
   -- a stopped machine is asked for its counts alone
@@ -79,7 +79,7 @@ module _ (W : Type 0) (mode : Bool) (k : Config) (K : ℕ) (l : Legal k K) (mem 
   sim-gives t (N.on c) (M.on s) m i = sim-deliver W k t (serveTo (k .m) (k .banks) c) (served g t s) (l .long) (l .delays) (after-service t c s m i)
 
   still-good : (t : ℕ) → Good t (run mode g K mem ops t)
-  still-good t = good W mode g K mem ops Addr fine (k .m) (ticks k K l) (l .fits) t
+  still-good t = run-good W mode g K mem ops Addr fine (k .m) (ticks k K l) (l .fits) t
 
   pub sim-run : (t : ℕ) → SimRun W k t (runC mode k K mem ops t) (run mode g K mem ops t)
   unfolding run runC

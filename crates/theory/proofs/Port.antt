@@ -18,7 +18,7 @@ use Rattle.theory.proofs.Machine.{St, Run, shape, cycle, reply, gives, 
 use Rattle.theory.proofs.Machine as M
 use Rattle.theory.proofs.Calls.{run-after, offered, offered-before, offered-last}
 use Rattle.theory.proofs.Concrete.{Config, Legal, setup, CSt, CRun, on, off, cycleC, replyC, runC, reachedC}
-use Rattle.theory.proofs.Runs.{any, good, delivery}
+use Rattle.theory.proofs.Runs.{any, run-good, delivery}
 use Rattle.theory.proofs.Sim.{same-length}
 use Rattle.theory.proofs.Final.{SimRun, ticks, sim-run, sim-reply}
 
@@ -109,6 +109,6 @@ module _ {W : Type 0} (mode : Bool) (k : Config) (K : ℕ) (mem : ℕ → W) whe
     unfolding byCycle
     owes ops s e =
         let e′ : run mode (setup k) K mem (offered ops) (length ops) ≡ M.on s = e in
-        let i = good W mode (setup k) K mem (offered ops) (λ a. Unit {0}) (λ t. any (offered ops t)) (k .m) (ticks k K l) (l .fits) (length ops) in
+        let i = run-good W mode (setup k) K mem (offered ops) (λ a. Unit {0}) (λ t. any (offered ops t)) (k .m) (ticks k K l) (l .fits) (length ops) in
         let d = delivery W mode (setup k) K mem (offered ops) (λ a. Unit {0}) (λ t. any (offered ops t)) (k .m) (ticks k K l) (l .fits) (l .delays) (length ops) in
         (did mode (setup k) K mem (offered ops), (rw e′ at i) .0 .shapes, (rw e′ at d) tt)

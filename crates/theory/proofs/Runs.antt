@@ -32,15 +32,15 @@ module _ (W : Type 0) (mode : Bool) (g : Setup) (K : ℕ) (mem : ℕ → W) (ops
   taken = record { did = did mode g K mem ops; I = ideal mem (did mode g K mem ops); I-suc = ideal-suc; legal = did-legal }
 
   module _ (m : ℕ) (clock : Clock m g) (fits : K * m ≤ g .delay) where
-    pub good : (t : ℕ) → GoodRun W g m Addr taken clock K fits mode t (run mode g K mem ops t)
+    pub run-good : (t : ℕ) → GoodRun W g m Addr taken clock K fits mode t (run mode g K mem ops t)
     unfolding run ideal did
-    good zero = fresh-good W g m Addr taken clock K fits mode mem (λ a. refl)
-    good (suc t) = cycle-good W g m Addr taken clock K fits mode t (ops t) (run mode g K mem ops t) (good t) refl
+    run-good zero = fresh-good W g m Addr taken clock K fits mode mem (λ a. refl)
+    run-good (suc t) = cycle-good W g m Addr taken clock K fits mode t (ops t) (run mode g K mem ops t) (run-good t) refl
 
     pub delivery : 0 < g .delay → (t : ℕ) → Going (run mode g K mem ops t)
         → gives mode g K t (run mode g K mem ops t) ≡ cond (lt t (g .delay)) nil (owed (taken .did (t - g .delay)) (taken .I (t - g .delay)))
     unfolding deliver
-    delivery pos t = go (run mode g K mem ops t) (good t)
+    delivery pos t = go (run mode g K mem ops t) (run-good t)
       where
         at : (s : St W) → GoodRun W g m Addr taken clock K fits mode t (on s) → (x : Bool) → Says (t < g .delay) x
             → cond x nil (out (served g t s .row (t - g .delay))) ≡ cond x nil (owed (taken .did (t - g .delay)) (taken .I (t - g .delay)))
