@@ -13,7 +13,7 @@ use Rattle.port.specs.declared.Delivery.the-variants.{None, Unready, Word}
 use Rattle.port.specs.declared.Reply as replied
 use Rattle.model.specs.declared.Lengths.{Lengths}
 use Rattle.model.specs.declared.State as kept
-use Rattle.model.specs.declared.Cycled as passing
+use Rattle.model.specs.declared.Cycled as cycling
 use Rattle.model.specs.declared.Started as starting
 use Rattle.records.specs.declared.OperationRecord.{OperationRecord}
 use Rattle.setuprecord.specs.declared.SetupRecord.{SetupRecord}
@@ -89,7 +89,7 @@ abbrev pub replyOut : replied.Reply → Reply
 replyOut r =
     record { answer = r .answer; delivery = deliveryOut (r .delivery); word = wordOut (r .delivery); stamp = r .stamp }
 
-abbrev pub cycledOut : passing.Cycled → Cycled
+abbrev pub cycledOut : cycling.Cycled → Cycled
 cycledOut r = record { state = stateOut (r .state); reply = replyOut (r .reply) }
 
 -- delivery none, stamp 0, and the state as it was
@@ -97,8 +97,8 @@ abbrev pub refusedBy : ℕ → State → Cycled
 refusedBy n t = record { state = t; reply = record { answer = n; delivery = 0; word = 0; stamp = 0 } }
 
 -- what a question returns
-abbrev pub told : ℕ → ℕ → Told
-told answer count = record { answer = answer; count = count }
+abbrev pub toldOut : ℕ → ℕ → Told
+toldOut answer count = record { answer = answer; count = count }
 
 ------------------------------------------------------------------------
 -- An operation is the three numbers of its record, under the record's rule

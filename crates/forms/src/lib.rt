@@ -1,6 +1,6 @@
 // What C passes and gets: structs of numbers, and the functions between them and the controller's types.
 ghost use mathlib.Core.Path.{_≡_};
-ghost use Rattle.forms.specs.Forms.{noSetup, checkedOut, lentOut, noLengths, markOk, stateIn, markOut, stateOut, startedOut, deliveryOut, wordOut, replyOut, cycledOut, refusedBy, told, operationIn, askedOf, operationOut, setupRead, operationRead};
+ghost use Rattle.forms.specs.Forms.{noSetup, checkedOut, lentOut, noLengths, markOk, stateIn, markOut, stateOut, startedOut, deliveryOut, wordOut, replyOut, cycledOut, refusedBy, toldOut, operationIn, askedOf, operationOut, setupRead, operationRead};
 use setup::Setup;
 
 pub const DELIVERY_NONE: u32 = 0;
@@ -265,7 +265,7 @@ pub fn refuse(answer: u32, t: State) -> Cycled
 
 // What a question returned.
 pub fn told_out(w: model::Waiting) -> Told
-    ensures { λ r. ⌜ r ≡ told (w .answer) (w .count) ⌝ }
+    ensures { λ r. ⌜ r ≡ toldOut (w .answer) (w .count) ⌝ }
 {
     Told {
         answer: w.answer,

@@ -9,7 +9,7 @@ use Rattle.setup.specs.Setup.{withDefaults, inRange, checkedOf}
 use Rattle.port.specs.declared.Operation as port
 use Rattle.model.specs.declared.State as kept
 use Rattle.model.specs.declared.Started as starting
-use Rattle.model.specs.declared.Cycled as passing
+use Rattle.model.specs.declared.Cycled as cycling
 use Rattle.model.specs.Lent as room
 use Rattle.model.specs.Range.{lengthsOk}
 use Rattle.model.specs.Calls.{started, freshState, freshLent, freshOf, cycleOf, waitingOf, refused}
@@ -20,7 +20,7 @@ use Rattle.records.specs.declared.OperationRecord.{OperationRecord}
 use Rattle.forms.specs.declared.Asked.{Asked}
 use Rattle.forms.specs.declared.State.{State}
 use Rattle.forms.specs.declared.Cycled.{Cycled}
-use Rattle.forms.specs.Forms.{markOk, stateIn, stateOut, startedOut, operationIn, askedIn, refusedBy, told}
+use Rattle.forms.specs.Forms.{markOk, stateIn, stateOut, startedOut, operationIn, askedIn, refusedBy, toldOut}
 use Rattle.forms.proofs.Back.{mark-good, state-back, state-there, asked-back, refused-out}
 use Rattle.interface.specs.Interface.{startWith, cycledWith, badMark, cycleIn, waitingOut}
 use Rattle.interface.specs.Carried.{SameCycle, SameQuestion, StartsC, RefusesC}
@@ -35,8 +35,8 @@ same-cycle s t op x = ap (λ (a : Asked). cycleIn a s (stateOut t) x) (asked-bac
 pub same-question : SameQuestion
 unfolding waitingOut
 same-question s t b x =
-    ap (λ (m : Bool). pick m (told (waitingOf s (stateIn (stateOut t)) b x .answer) (waitingOf s (stateIn (stateOut t)) b x .count)) (told (badMark (checkedOf s) x) 0)) (mark-good (t .stamp) (t .turn) (t .position) (t .stopped))
-    ∙ ap (λ (k : kept.State). told (waitingOf s k b x .answer) (waitingOf s k b x .count)) (state-back t)
+    ap (λ (m : Bool). pick m (toldOut (waitingOf s (stateIn (stateOut t)) b x .answer) (waitingOf s (stateIn (stateOut t)) b x .count)) (toldOut (badMark (checkedOf s) x) 0)) (mark-good (t .stamp) (t .turn) (t .position) (t .stopped))
+    ∙ ap (λ (k : kept.State). toldOut (waitingOf s k b x .answer) (waitingOf s k b x .count)) (state-back t)
 
 ------------------------------------------------------------------------
 -- Refusals
@@ -59,7 +59,7 @@ Whole : State → room.Lent → Cycled × room.Lent → Type 0
 Whole t x w = Passes (w .0 .reply .answer) ⊎ (w ≡ (refusedBy (w .0 .reply .answer) t, x))
 
 -- w is what the controller returned and left
-with-whole : (t : State) (x : room.Lent) (w : passing.Cycled × room.Lent) → markOk t ≡ true
+with-whole : (t : State) (x : room.Lent) (w : cycling.Cycled × room.Lent) → markOk t ≡ true
     → Passes (w .0 .reply .answer) ⊎ (w ≡ refused (w .0 .reply .answer) (stateIn t) x) → Whole t x (cycledWith w)
 unfolding Whole
 with-whole t x w h (inl p) = inl p

@@ -12,7 +12,7 @@ use Rattle.model.specs.Calls.{freshState, freshLent, cycleOf, waitingOf}
 use Rattle.model.specs.Promises.{Passes}
 use Rattle.forms.specs.declared.State.{State}
 use Rattle.forms.specs.declared.Operation.{Operation}
-use Rattle.forms.specs.Forms.{stateOut, operationOut, refusedBy, told}
+use Rattle.forms.specs.Forms.{stateOut, operationOut, refusedBy, toldOut}
 use Rattle.interface.specs.Interface.{startOut, cycledWith, cycleOut, waitingOut}
 
 ------------------------------------------------------------------------
@@ -24,7 +24,7 @@ SameCycle = (s : Setup) (t : kept.State) (op : port.Operation) (x : room.Lent)
 
 abbrev pub SameQuestion : Type 0
 SameQuestion = (s : Setup) (t : kept.State) (b : ℕ) (x : room.Lent)
-    → waitingOut s (stateOut t) b x ≡ told (waitingOf s t b x .answer) (waitingOf s t b x .count)
+    → waitingOut s (stateOut t) b x ≡ toldOut (waitingOf s t b x .answer) (waitingOf s t b x .count)
 
 ------------------------------------------------------------------------
 -- Whatever C hands in

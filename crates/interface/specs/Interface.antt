@@ -6,7 +6,7 @@ use Rattle.choice.specs.Choice.{pick}
 use Rattle.setup.specs.Setup.{checkedOf}
 use Rattle.setup.specs.declared.Setup.{Setup}
 use Rattle.setup.specs.declared.Checked as setup
-use Rattle.model.specs.declared.Cycled as passing
+use Rattle.model.specs.declared.Cycled as cycling
 use Rattle.model.specs.declared.Started as starting
 use Rattle.model.specs.Lent as room
 use Rattle.model.specs.Range.{lengthsOf, lengthsOk}
@@ -20,7 +20,7 @@ use Rattle.forms.specs.declared.Started.{Started}
 use Rattle.forms.specs.declared.Operation.{Operation}
 use Rattle.forms.specs.declared.Cycled.{Cycled}
 use Rattle.forms.specs.declared.Told.{Told}
-use Rattle.forms.specs.Forms.{lentOut, noLengths, markOk, stateIn, startedOut, cycledOut, refusedBy, told, operationIn, askedOf}
+use Rattle.forms.specs.Forms.{lentOut, noLengths, markOk, stateIn, startedOut, cycledOut, refusedBy, toldOut, operationIn, askedOf}
 
 ------------------------------------------------------------------------
 -- How many numbers each lent room has
@@ -46,7 +46,7 @@ unfoldable pub badMark : setup.Checked → room.Lent → ℕ
 badMark setup.Checked.Refused x = badSetup
 badMark (setup.Checked.Good s) x = pick (lengthsOk s x) badState badLength
 
-abbrev pub cycledWith : passing.Cycled × room.Lent → Cycled × room.Lent
+abbrev pub cycledWith : cycling.Cycled × room.Lent → Cycled × room.Lent
 cycledWith r = (cycledOut (r .0), r .1)
 
 unfoldable pub cycleIn : Asked → Setup → State → room.Lent → Cycled × room.Lent
@@ -63,7 +63,7 @@ cycleOut s t op x = cycleIn (askedOf t op) s t x
 unfoldable pub waitingOut : Setup → State → ℕ → room.Lent → Told
 waitingOut s t b x =
     let r = waitingOf s (stateIn t) b x in
-    pick (markOk t) (told (r .answer) (r .count)) (told (badMark (checkedOf s) x) 0)
+    pick (markOk t) (toldOut (r .answer) (r .count)) (toldOut (badMark (checkedOf s) x) 0)
 
 ------------------------------------------------------------------------
 -- Writing an operation

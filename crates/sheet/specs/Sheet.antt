@@ -15,47 +15,47 @@ use Rattle.port.specs.declared.Delivery.the-variants.{None, Word}
 use Rattle.model.specs.Promises.{ledgerAt}
 use Rattle.model.specs.Examples.{zeros, heard, read, write, memories}
 
-pub data Asked : Type 0 where
-  place : Setup → (address : ℕ) → Asked
-  check : Setup → Asked
-  run : Setup → List Operation → Asked
-  entries : Setup → List Operation → Asked
-  memory : Setup → List Operation → (cycles : List ℕ) → Asked
+pub data Question : Type 0 where
+  place : Setup → (address : ℕ) → Question
+  check : Setup → Question
+  run : Setup → List Operation → Question
+  entries : Setup → List Operation → Question
+  memory : Setup → List Operation → (cycles : List ℕ) → Question
 
-pub data Told : Type 0 where
-  cell-bank-row : (cell bank row : ℕ) → Told
-  accepted : (delta c : ℕ) → Told
-  refused : (answer : ℕ) → Told
-  replied : List (ℕ × Delivery) → Told
-  placed : (entries : ℕ) → Told
-  held : (words : List ℕ) → Told
+pub data Outcome : Type 0 where
+  cell-bank-row : (cell bank row : ℕ) → Outcome
+  accepted : (delta c : ℕ) → Outcome
+  refused : (answer : ℕ) → Outcome
+  replied : List (ℕ × Delivery) → Outcome
+  placed : (entries : ℕ) → Outcome
+  held : (words : List ℕ) → Outcome
 
--- an accepted setup is told by its delay and its C, once the defaults are in
-abbrev pub setupTold : Checked → Told
-setupTold (Good s) = accepted (s .delta) (s .c)
-setupTold Refused = refused (answerOf Refused)
+-- an accepted setup is shown by its delay and its C, once the defaults are in
+abbrev pub setupOutcome : Checked → Outcome
+setupOutcome (Good s) = accepted (s .delta) (s .c)
+setupOutcome Refused = refused (answerOf Refused)
 
-abbrev pub cellTold : Setup → Cell → Told
-cellTold s x = cell-bank-row (x .0) (bankOf (mapOf s) x) (rowOf (mapOf s) x)
+abbrev pub cellOutcome : Setup → Cell → Outcome
+cellOutcome s x = cell-bank-row (x .0) (bankOf (mapOf s) x) (rowOf (mapOf s) x)
 
 -- a run over memory of zeros: its answers and deliveries; the entries placed at bank 0; the memory word at cell 0 after each of these cycles
-abbrev pub toldOf : Asked → Told
-toldOf (place s x) = cellTold s (cellOf (mapOf s) (record { 0 = x }))
-toldOf (check s) = setupTold (checkedOf s)
-toldOf (run s ops) = replied (heard s ops)
-toldOf (entries s ops) = placed (ledgerAt s (zeros s) ops .placed 0)
-toldOf (memory s ops cycles) = held (memories s ops 0 cycles)
+abbrev pub outcomeOf : Question → Outcome
+outcomeOf (place s x) = cellOutcome s (cellOf (mapOf s) (record { 0 = x }))
+outcomeOf (check s) = setupOutcome (checkedOf s)
+outcomeOf (run s ops) = replied (heard s ops)
+outcomeOf (entries s ops) = placed (ledgerAt s (zeros s) ops .placed 0)
+outcomeOf (memory s ops cycles) = held (memories s ops 0 cycles)
 
 ------------------------------------------------------------------------
 -- The table
 
 pub record Example : Type 0 where
-  pub asked : Asked
-  pub expected : Told
+  pub question : Question
+  pub expected : Outcome
 
 infixl 20 _gives_
-abbrev pub _gives_ : Asked → Told → Example
-q gives t = record { asked = q; expected = t }
+abbrev pub _gives_ : Question → Outcome → Example
+q gives t = record { question = q; expected = t }
 
 abbrev pub plain : (a s m k delta c u v : ℕ) → Setup
 plain a s m k delta c u v = record { mode = 0; a = a; s = s; m = m; k = k; delta = delta; c = c; u = u; v = v }
@@ -93,6 +93,6 @@ sheet =
     replied ((0, None) ∷ (0, None) ∷ (0, None) ∷ (0, Word 10) ∷ (0, Word 0) ∷ (0, None) ∷ (5, Word 0) ∷ (0, Word 0) ∷ []))
     ∷ []
 
--- every row tells what the document expects
+-- every row gives what the document expects
 abbrev pub Sheet : Type 0
-Sheet = map (λ (r : Example). toldOf (r .asked)) sheet ≡ map (λ (r : Example). r .expected) sheet
+Sheet = map (λ (r : Example). outcomeOf (r .question)) sheet ≡ map (λ (r : Example). r .expected) sheet

@@ -5,7 +5,7 @@ use Rattle.answers.specs.Answers.{badRecord}
 use Rattle.setup.specs.declared.Setup.{Setup}
 use Rattle.setup.specs.Setup.{checkedOf}
 use Rattle.port.specs.declared.Operation as port
-use Rattle.model.specs.declared.Cycled as passing
+use Rattle.model.specs.declared.Cycled as cycling
 use Rattle.model.specs.declared.State as kept
 use Rattle.model.specs.Lent.{Lent}
 use Rattle.model.specs.Calls.{cycleOf}
@@ -28,12 +28,12 @@ module _ (s : Setup) (t : State) (op : Operation) (x : Lent) (a : Asked) (ea : a
   unfolding cycleIn
   cycle-bad-mark h e = rw (← ea, h, e)
 
-  cycle-passed : (k : kept.State) (o : port.Operation) (q : passing.Cycled) (y : Lent) → a ≡ Asked.Cycle k o
+  cycle-passed : (k : kept.State) (o : port.Operation) (q : cycling.Cycled) (y : Lent) → a ≡ Asked.Cycle k o
       → (q, y) ≡ cycleOf s k o x → out ≡ cycledOut q → (out, y) ≡ cycleOut s t op x
   unfolding cycleIn
   cycle-passed k o q y h eq e = rw (← ea, h) (go (cycleOf s k o x) eq)
     where
-      go : (w : passing.Cycled × Lent) → (q, y) ≡ w → (out, y) ≡ cycledWith w
+      go : (w : cycling.Cycled × Lent) → (q, y) ≡ w → (out, y) ≡ cycledWith w
       go w ew = rw (← ew, e)
 
 cycle-asked-requires : tie.Need-cycle-asked-requires

@@ -11,7 +11,7 @@ use Rattle.model.specs.Lent.{Lent}
 use Rattle.model.specs.Calls.{waitingOf}
 use Rattle.forms.specs.declared.State.{State}
 use Rattle.forms.specs.declared.Told.{Told}
-use Rattle.forms.specs.Forms.{markOk, stateIn, told}
+use Rattle.forms.specs.Forms.{markOk, stateIn, toldOut}
 use Rattle.interface.specs.Interface.{badMark, waitingOut}
 use Rattle.interface.proofs.ridkostan_waiting.Statement.{statement}
 use Rattle.interface.proofs.ridkostan_waiting.Tie as tie
@@ -19,11 +19,11 @@ use Rattle.interface.proofs.ridkostan_waiting.Tie as tie
 -- m is what the test of the mark answered
 module _ (s : Setup) (t : State) (b : ℕ) (x : Lent) (m : Bool) (em : m ≡ markOk t) where
   waiting-told : (k : kept.State) (w : Waiting) (out : Told) → m ≡ true → k ≡ stateIn t → w ≡ waitingOf s k b x
-      → out ≡ told (w .answer) (w .count) → out ≡ waitingOut s t b x
+      → out ≡ toldOut (w .answer) (w .count) → out ≡ waitingOut s t b x
   unfolding waitingOut
   waiting-told k w out h ek ew eo = rw (← em, h, ← ek, ← ew) eo
 
-  waiting-bad-mark : (n : ℕ) → m ≡ false → n ≡ badMark (checkedOf s) x → told n 0 ≡ waitingOut s t b x
+  waiting-bad-mark : (n : ℕ) → m ≡ false → n ≡ badMark (checkedOf s) x → toldOut n 0 ≡ waitingOut s t b x
   unfolding waitingOut
   waiting-bad-mark n h en = rw (← em, h, en)
 
