@@ -89,7 +89,7 @@ pub fn cycle(
     }
 }
 
-// How many entries wait at one bank.
+// How many entries wait at one bank. Not by `standing`: called here alone, that is a part of `cycle`, and its setup is not copied.
 pub fn waiting(
     setup: Setup,
     t: State,
@@ -102,8 +102,16 @@ pub fn waiting(
     ensures { λ r. ⌜ r
         ≡ waitingOf setup t bank (lent (now (memory .entry)) (now (rows .entry)) (now (entries .entry)) (now (heads .entry))) ⌝ }
 {
-    match refusals::standing(setup, t, memory, rows, entries, heads) {
+    match refusals::exact(setup, memory, rows, entries, heads) {
         Standing::Refusal(answer) => Waiting { answer, count: 0 },
-        Standing::Sound(s) => refusals::tell(s, bank, heads),
+        Standing::Sound(s) => {
+            if refusals::numbers_ok(s, t, rows, entries, heads) {
+                return refusals::tell(s, bank, heads);
+            }
+            Waiting {
+                answer: answers::BAD_STATE,
+                count: 0,
+            }
+        }
     }
 }

@@ -51,6 +51,9 @@ standing-in-sound (Sound f) s t x h =
 
 -- r is what the test answered
 module _ (g s : Setup) (x : Lent) {r : Standing} where
+  pub exact-ranges : r ≡ exactOf g x → r ≡ Sound s → Ranges s
+  exact-ranges e h = checked-ranges g s (exact-in-sound (checkedOf g) s x (sym e ∙ h) .0)
+
   pub exact-lengths : r ≡ exactOf g x → r ≡ Sound s → lengthsOk s x ≡ true
   exact-lengths e h = exact-in-sound (checkedOf g) s x (sym e ∙ h) .1
 

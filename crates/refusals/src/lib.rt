@@ -61,7 +61,7 @@ pub fn exact(setup: Setup, memory: &[u32], rows: &[u32], entries: &[u32], heads:
 }
 
 // Whether every number in state, row or entry is in the range its meaning allows.
-fn numbers_ok(s: Setup, t: State, rows: &[u32], entries: &[u32], heads: &[u32]) -> bool
+pub fn numbers_ok(s: Setup, t: State, rows: &[u32], entries: &[u32], heads: &[u32]) -> bool
     requires { ⌜ Ranges s × (length (now rows) ≡ lengthsOf s .rows) × Room s (buffersIn (now entries) (now heads)) ⌝ }
     ensures { λ r. ⌜ r ≡ numbersOk s t (now (rows .entry)) (buffersIn (now (entries .entry)) (now (heads .entry))) ⌝ }
 {
