@@ -1,18 +1,20 @@
 /* ridkostan.h: a memory controller that is proved to answer as one fast SRAM would.
  *
- * Many slow banks stand behind one port. Each call of ridkostan_cycle is one cycle: the port takes a read, a write or nothing,
- * and the word of a read leaves exactly `delta` passed cycles later. docs/INTERFACE.md has the whole interface in words,
- * docs/PROMISES.md what is proved of it.
+ * Many slow banks stand behind one port. Each call of ridkostan_cycle that is not refused is one cycle: the port is offered a
+ * read, a write or nothing, and the word of a read that is taken leaves exactly `delta` passed cycles later, once that cycle
+ * is reached. docs/INTERFACE.md has the whole interface in words, docs/PROMISES.md what is proved of it.
  *
  * What is lent. The library allocates nothing and keeps nothing: all it works on is passed to each call. The caller owns
  * four rooms of 32-bit numbers (ridkostan_lengths tells their lengths) and one small state that goes in and comes back by
  * value. A run is: lend the rooms, call ridkostan_fresh_start once, then ridkostan_cycle with the state that the call before
  * returned and the rooms as it left them.
  *
- * A lent room is a pointer and then a count of its ELEMENTS, not of bytes. The pointer is aligned for its type and not null
- * unless the count is 0. The rooms of one call do not overlap, except that rooms which are `const` in that call may share
- * elements with one another. That the count tells the truth is the one thing no call can test: with that, every call ends
- * and stays inside the rooms it was lent, whatever they hold and whatever the numbers are.
+ * A lent room is a pointer and then a count of its ELEMENTS, not of bytes. What no call can test, the caller sees to:
+ * - the count tells the truth, and every element was written once, as calloc does; what it holds does not matter;
+ * - the pointer is aligned for its type, and not null unless the count is 0;
+ * - the rooms of one call do not overlap, except that rooms which are `const` in that call may share elements;
+ * - while the call runs nobody else writes to its rooms, nor reads one that is not `const` in it.
+ * With these, every call ends and stays inside the rooms it was lent, whatever they hold and whatever the numbers are.
  *
  * Threads. The library has no state of its own: calls over different rooms can run at the same time, and so can
  * ridkostan_waiting over the same rooms while none writes to them.
@@ -34,15 +36,17 @@ extern "C" {
  * no word. Where several apply, the order is 9 (an operation that is none), 1, 2, 3, 7, 4, and then 6 before 5. */
 enum {
     RIDKOSTAN_DONE = 0,           /* the cycle passed and nothing was dropped; or what was asked for is done */
-    RIDKOSTAN_BAD_SETUP = 1,      /* a number of the setup is out of range */
-    RIDKOSTAN_BAD_LENGTH = 2,     /* a lent length differs from the one that the setup asks for */
-    RIDKOSTAN_BAD_STATE = 3,      /* a number in state, row or entry is out of the range its meaning allows */
+    RIDKOSTAN_BAD_SETUP = 1,      /* a number of the setup is out of range; of a setup record also a wrong length, or a byte
+                                     that is not zero where zero is due */
+    RIDKOSTAN_BAD_LENGTH = 2,     /* a lent length is not the one due: by the setup, or that of the record to be written */
+    RIDKOSTAN_BAD_STATE = 3,      /* a number in state, row, entry or head is out of the range its meaning allows */
     RIDKOSTAN_BAD_ADDRESS = 4,    /* address at or above N, or bank at or above B in a question */
     RIDKOSTAN_DROPPED = 5,        /* the operation needed a place in a full buffer and is dropped; the cycle passed */
     RIDKOSTAN_STOPPING = 6,       /* a retiring write needed a place in a full buffer: the state is now marked stopped */
-    RIDKOSTAN_STOPPED = 7,        /* the state is marked stopped */
+    RIDKOSTAN_STOPPED = 7,        /* the state is marked stopped: no cycle passes; ridkostan_waiting answers all the same */
     RIDKOSTAN_ROOM_TOO_SMALL = 8, /* the program cyclerun's own room is too small; no call of this library answers it */
-    RIDKOSTAN_BAD_RECORD = 9      /* a record, or an operation, is of unknown kind or not zero where zero is due */
+    RIDKOSTAN_BAD_RECORD = 9      /* an operation, or its record, is of unknown kind or not zero where zero is due; for a
+                                     wrong length ridkostan_read_operation alone answers it */
 };
 
 /* ---- Setups -------------------------------------------------------------------------------------------------------------
@@ -62,11 +66,11 @@ typedef struct ridkostan_setup {
     uint16_t c;     /* rows in the reservation table: delta to 4096; 0 stands for delta */
     uint32_t u;     /* the address map, cell = (u*address + v) mod N: below N, odd */
     uint32_t v;     /* below N */
-} ridkostan_setup;
+} ridkostan_setup;  /* 20 bytes; the two between c and u are padding, which no call looks at and none is bound to set */
 
 typedef struct ridkostan_checked {
     uint32_t answer;       /* RIDKOSTAN_DONE or RIDKOSTAN_BAD_SETUP */
-    ridkostan_setup setup; /* the setup with its defaults in; all zero where it is refused */
+    ridkostan_setup setup; /* as the call says; every number 0 where it is refused */
 } ridkostan_checked;
 
 /* Whether every number of the setup is in range, and the setup with its defaults in. */

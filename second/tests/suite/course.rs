@@ -34,7 +34,7 @@ fn the_runs_of_the_course_are_listed_as_they_are() {
     let course = fs::read_to_string(course).unwrap();
     let blocks = course.split("```").skip(1).step_by(2);
     let runs: Vec<Shown> = blocks.filter_map(shown).collect();
-    assert_eq!(runs.len(), 7);
+    assert_eq!(runs.len(), 8);
     for run in runs {
         let setup = pack_setup(run.setup).unwrap();
         let operations = pack_operations(&run.operations).unwrap();
