@@ -31,8 +31,10 @@ exported =
       write-operation = write-operation-one;
       read-setup = read-setup-one;
       write-setup = write-setup-one;
-      fresh-start = λ _ _ _ _ _ _ p q. (result-same p q, ap (λ (x : Lent). (tt, (tt, (tt, (x .rows, (tt, (x .buffers .heads, tt))))))) (left-same p q));
-      cycle = λ _ _ _ _ _ _ p q. (result-same p q, ap (λ (x : Lent). (tt, (tt, (tt, (x .memory, (x .rows, (x .buffers .entries, (x .buffers .heads, tt)))))))) (left-same p q));
+      fresh-start = λ _ _ _ _ _ _ p q.
+          (result-same p q, ap (λ (x : Lent). (tt, (tt, (tt, (x .rows, (tt, (x .buffers .heads, tt))))))) (left-same p q));
+      cycle = λ _ _ _ _ _ _ p q.
+          (result-same p q, ap (λ (x : Lent). (tt, (tt, (tt, (x .memory, (x .rows, (x .buffers .entries, (x .buffers .heads, tt)))))))) (left-same p q));
       waiting = λ _ _ _ _ _ _ p q. (p ∙⁻¹ q, refl);
     }
 
@@ -41,8 +43,10 @@ exported-to-c =
     record {
       check = λ _ _ _ _ _ _ p q. (p ∙⁻¹ q, refl);
       lengths = λ _ _ _ _ _ _ p q. (p ∙⁻¹ q, refl);
-      fresh-start = λ _ _ _ _ _ _ p q. (result-same p q, ap (λ (x : Lent). (tt, (tt, (tt, (x .rows, (tt, (x .buffers .heads, tt))))))) (left-same p q));
-      cycle = λ _ _ _ _ _ _ p q. (result-same p q, ap (λ (x : Lent). (tt, (tt, (tt, (x .memory, (x .rows, (x .buffers .entries, (x .buffers .heads, tt)))))))) (left-same p q));
+      fresh-start = λ _ _ _ _ _ _ p q.
+          (result-same p q, ap (λ (x : Lent). (tt, (tt, (tt, (x .rows, (tt, (x .buffers .heads, tt))))))) (left-same p q));
+      cycle = λ _ _ _ _ _ _ p q.
+          (result-same p q, ap (λ (x : Lent). (tt, (tt, (tt, (x .memory, (x .rows, (x .buffers .entries, (x .buffers .heads, tt)))))))) (left-same p q));
       waiting = λ _ _ _ _ _ _ p q. (p ∙⁻¹ q, refl);
       read-setup = λ _ _ _ _ _ _ p q. (p ∙⁻¹ q, refl);
       write-setup = λ _ _ _ _ _ _ p q. (result-same p q, ap (λ room. (tt, (room, tt))) (left-same p q));

@@ -1,5 +1,6 @@
--- For every exported function: any two results that its contract allows for the same input are equal. `f.ended` is f's signature
--- with what of each parameter is seen at exit, and `f.Reads.Learnt` what a caller learns by f's contract, both made from the source.
+-- For every exported function: any two results that its contract allows for the same input are equal.
+-- `f.ended` is the signature of f with what is seen of its parameters at exit, `f.Reads.Learnt` what a caller learns by its
+-- contract: the toolchain makes both from the source.
 use Rattle.results.specs.Results.{OneResult}
 use Rattle.setup.proofs as setup
 use Rattle.map.proofs as map
