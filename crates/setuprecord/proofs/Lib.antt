@@ -1,3 +1,4 @@
 pub mod Choice
 pub mod Setup
 pub mod RoundTrip
+pub mod OneResult

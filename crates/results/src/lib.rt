@@ -1,0 +1,1 @@
+// One result for each input: a statement of contracts alone, in specs/.
