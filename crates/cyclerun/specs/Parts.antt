@@ -1,8 +1,10 @@
 -- What the program reads and prints: the setup file, and the input in parts.
-use Prim.Native.Nat.{ℕ, _*_, _^_}
+use Prim.Native.Nat.{ℕ, _+_, _*_, _^_}
 use mathlib.Core.Path.{_≡_}
+use mathlib.Core.Bool.{Bool, false, _&&_}
 use mathlib.Core.List.{List, [], _∷_, _++_}
-use lib.ListN.{length}
+use lib.Dec.{eqb, ltb}
+use lib.ListN.{length, take}
 use Rattle.setup.specs.declared.Setup.{Setup}
 use Rattle.model.specs.Lent.{Lent}
 use Rattle.records.specs.Records.{operationSize}
@@ -46,6 +48,18 @@ abbrev pub Adds : Setup → ℕ → List ℕ → List ℕ → Type 0
 Adds s n part text =
     (before : List ℕ)
     × ((length before ≡ partBytes * n) × (printedIn (Opening.Open s) (before ++ part) ≡ printedIn (Opening.Open s) before ++ text))
+
+-- whether one part more is read behind a part and n before it: no bad record, its text written, the part whole, and parts to come
+abbrev pub goesOn : Run → ℕ → Bool → ℕ → Bool
+goesOn r read written n = r .on && written && eqb read partBytes && ltb (n + 1) partsMost
+
+-- a run and its machine are where n parts of input lead and the one that was read behind them, and none is read behind it
+abbrev pub Ended : Setup → Run → ℕ → Bool → Lent → List ℕ → Type 0
+Ended s r read written x input =
+    (n : ℕ) × (before : List ℕ)
+    × ((length before ≡ partBytes * n)
+    × (listedFrom r x ≡ apart (listed s (before ++ take read input) (firstOf s)))
+    × (goesOn r read written n ≡ false))
 
 ------------------------------------------------------------------------
 -- All parts together: whole ones, and a last one of any length

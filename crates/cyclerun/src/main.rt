@@ -7,7 +7,7 @@ ghost use Rattle.model.specs.Lent.{lent};
 ghost use Rattle.decimal.specs.Decimal.{pairTable};
 ghost use Rattle.listing.specs.Listing.{lineMost};
 ghost use Rattle.replay.specs.Replay.{recordsIn, listed, listedFrom, putAt, zerosFor, wholeRoom, Opened};
-ghost use Rattle.cyclerun.specs.Parts.{Opens, PrintsOnly, partMost, partBytes, Reached, Adds};
+ghost use Rattle.cyclerun.specs.Parts.{Opens, PrintsOnly, partMost, partBytes, Reached, Adds, Ended};
 use libc::STDIN_FILENO;
 use libc::STDOUT_FILENO;
 use model::Entry;
@@ -85,7 +85,7 @@ fn run_part(
     }
 }
 
-// Runs to the end of the input, to a bad record or to a write that fails.
+// Runs to the end of the input, to a bad record or to a write that fails, and answers the last part.
 fn run_all(
     s: Setup,
     memory: &mut [u32],
@@ -95,19 +95,22 @@ fn run_all(
     table: &[u8; decimal::PAIRS],
     input: &mut [u8],
     out: &mut [u8],
-)
+) -> Part
     requires { ⌜ Opened s × (lent (now memory) (now rows) (now entries) (now heads) ≡ zerosFor s)
         × (now table ≡ pairTable) × (length (now input) ≡ partBytes)
         × (lineMost * partMost ≤ length (now out)) ⌝ }
+    ensures { λ p. ⌜ Ended s (p .run) (p .read) (p .written) (lent (now (memory .exit)) (now (rows .exit)) (now (entries .exit)) (now (heads .exit))) (now (input .exit)) ⌝ }
 {
     let mut r = replay::begin(s, memory, rows, entries, heads);
     let mut parts: u64 = 0;
-    let mut on = true;
-    while on {
+    loop {
         let part = run_part(s, parts, r, memory, rows, entries, heads, table, input, out);
         r = part.run;
         parts += 1;
-        on = r.on & part.written & (part.read == input.len()) & (parts < MOST_PARTS);
+        let on = r.on & part.written & (part.read == input.len()) & (parts < MOST_PARTS);
+        if !on {
+            return part;
+        }
     }
 }
 
