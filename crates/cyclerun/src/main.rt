@@ -1,13 +1,13 @@
 // Reads a setup from the file `setup` and operations from standard input, and prints a line per record.
 ghost use mathlib.Core.Path.{_≡_};
 ghost use Prim.Native.Nat.{_+_, _*_, _^_, _≤_, _<_};
-ghost use lib.ListN.{length};
+ghost use lib.ListN.{length, take};
 ghost use Rattle.io.specs.Counts.{Counts};
 ghost use Rattle.model.specs.Lent.{lent};
 ghost use Rattle.decimal.specs.Decimal.{pairTable};
 ghost use Rattle.listing.specs.Listing.{lineMost};
-ghost use Rattle.replay.specs.Replay.{recordsIn, zerosFor, wholeRoom, Opened};
-ghost use Rattle.cyclerun.specs.Parts.{partMost};
+ghost use Rattle.replay.specs.Replay.{recordsIn, listed, listedFrom, putAt, zerosFor, wholeRoom, Opened};
+ghost use Rattle.cyclerun.specs.Parts.{Opens, PrintsOnly, partMost, partBytes, Reached, Adds, Ended};
 use libc::STDIN_FILENO;
 use libc::STDOUT_FILENO;
 use model::Entry;
@@ -27,9 +27,27 @@ const OUTPUT_BYTES: usize = listing::LINE_MOST * PART;
 // No input has as many parts.
 const MOST_PARTS: u64 = 1 << 53;
 
-// Reads a part of the input and prints its lines. The run goes on where the part was whole.
+// A part of the input that was run.
+struct Part {
+    // The run behind it.
+    run: Run,
+    // How many bytes were read.
+    read: usize,
+    // Whether the system took the whole text.
+    written: bool,
+}
+
+// Hands the system what a part adds to the print. Setup, parts before and part are there for the contract to speak of.
+fn hand_over(s: Setup, parts: u64, part: &[u8], text: &[u8]) -> bool
+    requires { ⌜ Adds s parts (now part) (now text) ⌝ }
+{
+    io::write_all(STDOUT_FILENO, text)
+}
+
+// Reads the next part of the input, and prints its lines.
 fn run_part(
     s: Setup,
+    parts: u64,
     run: Run,
     memory: &mut [u32],
     rows: &mut [u32],
@@ -38,10 +56,13 @@ fn run_part(
     table: &[u8; decimal::PAIRS],
     input: &mut [u8],
     out: &mut [u8],
-) -> Run
+) -> Part
     requires { ⌜ (now table ≡ pairTable) × (lineMost * recordsIn (length (now input)) ≤ length (now out))
-        × (run .number + recordsIn (length (now input)) < 2 ^ 64) ⌝ }
-    ensures { λ r. ⌜ r .number ≤ run .number + recordsIn (length (now (input .entry))) ⌝ }
+        × (run .number + recordsIn (length (now input)) < 2 ^ 64)
+        × Reached s parts run (lent (now memory) (now rows) (now entries) (now heads)) ⌝ }
+    ensures { λ p. ⌜ ((p .run, (lent (now (memory .exit)) (now (rows .exit)) (now (entries .exit)) (now (heads .exit)), now (out .exit)))
+        ≡ putAt (now (out .entry)) 0 (listed s (take (p .read) (now (input .exit))) (listedFrom run (lent (now (memory .entry)) (now (rows .entry)) (now (entries .entry)) (now (heads .entry))))))
+        × (p .read ≤ length (now (input .exit))) ⌝ }
 {
     let n = io::read_full(STDIN_FILENO, input);
     let r = replay::part(
@@ -56,17 +77,15 @@ fn run_part(
         out,
     );
     let end = r.end;
-    let written = io::write_all(STDOUT_FILENO, &out[..end]);
-    let state = r.state;
-    Run {
-        state,
-        number: r.number,
-        on: r.on & written & (n == input.len()),
-        end,
+    let written = hand_over(s, parts, &input[..n], &out[..end]);
+    Part {
+        run: r,
+        read: n,
+        written,
     }
 }
 
-// Runs to the end of the input or to a bad record.
+// Runs to the end of the input, to a bad record or to a write that fails, and answers the last part.
 fn run_all(
     s: Setup,
     memory: &mut [u32],
@@ -76,16 +95,22 @@ fn run_all(
     table: &[u8; decimal::PAIRS],
     input: &mut [u8],
     out: &mut [u8],
-)
+) -> Part
     requires { ⌜ Opened s × (lent (now memory) (now rows) (now entries) (now heads) ≡ zerosFor s)
-        × (now table ≡ pairTable) × (recordsIn (length (now input)) ≤ partMost)
+        × (now table ≡ pairTable) × (length (now input) ≡ partBytes)
         × (lineMost * partMost ≤ length (now out)) ⌝ }
+    ensures { λ p. ⌜ Ended s (p .run) (p .read) (p .written) (lent (now (memory .exit)) (now (rows .exit)) (now (entries .exit)) (now (heads .exit))) (now (input .exit)) ⌝ }
 {
     let mut r = replay::begin(s, memory, rows, entries, heads);
-    let mut parts = MOST_PARTS;
-    while 0 < parts && r.on {
-        r = run_part(s, r, memory, rows, entries, heads, table, input, out);
-        parts -= 1;
+    let mut parts: u64 = 0;
+    loop {
+        let part = run_part(s, parts, r, memory, rows, entries, heads, table, input, out);
+        r = part.run;
+        parts += 1;
+        let on = r.on & part.written & (part.read == input.len()) & (parts < MOST_PARTS);
+        if !on {
+            return part;
+        }
     }
 }
 
@@ -101,7 +126,7 @@ fn cut(
     out: &mut [u8],
 )
     requires { ⌜ Opened s × (lent (now memory) (now rows) (now entries) (now heads) ≡ wholeRoom)
-        × (now table ≡ pairTable) × (recordsIn (length (now input)) ≤ partMost)
+        × (now table ≡ pairTable) × (length (now input) ≡ partBytes)
         × (lineMost * partMost ≤ length (now out)) ⌝ }
 {
     let words = s.words() as usize;
@@ -121,9 +146,9 @@ fn cut(
     );
 }
 
-// Makes the program's room, all zeros, and runs in it.
-fn start(s: Setup)
-    requires { ⌜ Opened s ⌝ }
+// Makes the program's room, all zeros, and runs in it. The file is there for the contract to speak of.
+fn start(file: &[u8], s: Setup)
+    requires { ⌜ Opens (now file) s ⌝ }
 {
     let mut memory = [0u32; replay::WORDS];
     let mut rows = [0u32; replay::ROW_NUMBERS];
@@ -157,16 +182,23 @@ fn read_setup(file: &mut [u8]) -> usize
     n
 }
 
+// Hands the system the line of a refused setup: all that is printed, whatever the input.
+fn refuse(file: &[u8], line: &[u8])
+    requires { ⌜ PrintsOnly (now file) (now line) ⌝ }
+{
+    io::write_all(STDOUT_FILENO, line);
+}
+
 fn main() {
     // One byte more than a setup has, so that a file that is too long is seen.
     let mut file = [0u8; setuprecord::SETUP_BYTES + 1];
     let n = read_setup(&mut file);
     let opening = replay::open(&file[..n]);
     match opening {
-        Opening::Open(s) => start(s),
+        Opening::Open(s) => start(&file[..n], s),
         Opening::Refused(answer) => {
             let line = replay::setup_line(answer);
-            io::write_all(STDOUT_FILENO, &line);
+            refuse(&file[..n], &line);
         }
     }
 }

@@ -1,8 +1,22 @@
 -- `cyclerun::main` meets its contract: what the file opens is known. Assumes nothing.
-use Rattle.replay.proofs.Opens.{opened, refused-digit}
+use Prim.Native.Nat.{ℕ}
+use mathlib.Core.Path.{_≡_, sym, ap, _∙_}
+use mathlib.Core.List.{List}
+use Rattle.setup.specs.declared.Setup.{Setup}
+use Rattle.replay.specs.declared.Opening.{Opening}
+use Rattle.replay.specs.Replay.{openingOf, setupLine, printedIn}
+use Rattle.replay.proofs.Opens.{refused-digit}
+use Rattle.cyclerun.specs.Parts.{Opens, PrintsOnly}
 use borrow.Author.Needs.{needs}
 use Rattle.cyclerun.proofs.main.Statement.{statement}
 use Rattle.cyclerun.proofs.main.Tie as tie
+
+opens : (file : List ℕ) (o : Opening) (s : Setup) → o ≡ openingOf file → o ≡ Opening.Open s → Opens file s
+opens file o s e h = sym e ∙ h
+
+prints-only : (file line : List ℕ) (o : Opening) (n : ℕ) → o ≡ openingOf file → o ≡ Opening.Refused n → line ≡ setupLine n → PrintsOnly file line
+unfolding printedIn
+prints-only file line o n e h l input = ap (λ (w : Opening). printedIn w input) (sym e ∙ h) ∙ sym l
 
 slice-aggregate-read-setup : tie.Need-slice-aggregate-read-setup
 slice-aggregate-read-setup c = search needs
@@ -22,8 +36,14 @@ open-requires c κs = search needs
 enum-known-opening : tie.Need-enum-known-opening
 enum-known-opening c = search needs
 
+array-share-prefix-file-2 : tie.Need-array-share-prefix-file-2
+array-share-prefix-file-2 c = search needs
+
+slice-aggregate-start : tie.Need-slice-aggregate-start
+slice-aggregate-start c = search needs
+
 start-requires : tie.Need-start-requires
-start-requires c κs = search (opened)
+start-requires c κs = search (opens)
 
 enum-known-opening-2 : tie.Need-enum-known-opening-2
 enum-known-opening-2 c = search needs
@@ -31,11 +51,17 @@ enum-known-opening-2 c = search needs
 setup-line-requires : tie.Need-setup-line-requires
 setup-line-requires c κs = search (refused-digit)
 
-slice-aggregate-write-all : tie.Need-slice-aggregate-write-all
-slice-aggregate-write-all c = search needs
+array-share-prefix-file-3 : tie.Need-array-share-prefix-file-3
+array-share-prefix-file-3 c = search needs
 
-write-all-requires : tie.Need-write-all-requires
-write-all-requires c κs = search needs
+slice-aggregate-refuse : tie.Need-slice-aggregate-refuse
+slice-aggregate-refuse c = search needs
+
+slice-aggregate-refuse-2 : tie.Need-slice-aggregate-refuse-2
+slice-aggregate-refuse-2 c = search needs
+
+refuse-requires : tie.Need-refuse-requires
+refuse-requires c κs = search (prints-only)
 
 returns : tie.Need-returns
 returns c = search needs
@@ -53,10 +79,14 @@ main-spec =
     slice-aggregate-open
     open-requires
     enum-known-opening
+    array-share-prefix-file-2
+    slice-aggregate-start
     start-requires
     enum-known-opening-2
     setup-line-requires
-    slice-aggregate-write-all
-    write-all-requires
+    array-share-prefix-file-3
+    slice-aggregate-refuse
+    slice-aggregate-refuse-2
+    refuse-requires
     returns
     returns-2)

@@ -1,8 +1,17 @@
 -- `cyclerun::start` meets its contract: the program's room is zeros. Assumes nothing.
+use Prim.Native.Nat.{ℕ}
 use mathlib.Core.Path.{refl}
+use mathlib.Core.List.{List}
 use borrow.Author.Needs.{needs}
+use Rattle.setup.specs.declared.Setup.{Setup}
+use Rattle.replay.specs.Replay.{openingOf, Opened}
+use Rattle.replay.proofs.Opens.{opened}
+use Rattle.cyclerun.specs.Parts.{Opens}
 use Rattle.cyclerun.proofs.start.Statement.{statement}
 use Rattle.cyclerun.proofs.start.Tie as tie
+
+file-opened : (file : List ℕ) (s : Setup) → Opens file s → Opened s
+file-opened file s h = opened file (openingOf file) s refl h
 
 pairs-requires : tie.Need-pairs-requires
 pairs-requires c κs = search needs
@@ -27,7 +36,7 @@ slice-aggregate-cut-6 c = search needs
 
 cut-requires : tie.Need-cut-requires
 cut-requires c κs = (
-  search needs,
+  search (file-opened),
   refl,
   search needs,
   search needs,
