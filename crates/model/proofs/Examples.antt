@@ -6,11 +6,15 @@ use Rattle.model.specs.Range.{rowsOk, entriesOk, buffersOk}
 use Rattle.model.specs.Calls.{exactIn, standingIn, offeredOf, freshIn, stepOf, cycleIn}
 use Rattle.model.specs.Runs.{replies, afterAll}
 use Rattle.model.specs.Promises.{historyFrom}
-use Rattle.model.specs.Examples.{MemoryLags, DroppedWriteTells, DroppedReadTells}
+use Rattle.model.specs.Examples.{MemoryLags, WordBeforeMemory, DroppedWriteTells, DroppedReadTells}
 
 pub memory-lags : MemoryLags
 unfolding cellOf bankOf filledBelow carried servedBank servedBelow scan placed retired arrived afterService passed rowsOk entriesOk buffersOk exactIn standingIn offeredOf freshIn stepOf cycleIn afterAll historyFrom
 memory-lags = (refl, refl)
+
+pub word-before-memory : WordBeforeMemory
+unfolding cellOf bankOf filledBelow carried servedBank servedBelow scan placed retired arrived afterService passed rowsOk entriesOk buffersOk exactIn standingIn offeredOf freshIn stepOf cycleIn replies afterAll historyFrom
+word-before-memory = (refl, refl, refl)
 
 pub dropped-write-tells : DroppedWriteTells
 unfolding cellOf bankOf filledBelow carried servedBank servedBelow scan placed retired arrived afterService passed rowsOk entriesOk buffersOk exactIn standingIn offeredOf freshIn stepOf cycleIn replies

@@ -1,4 +1,4 @@
--- Small runs, computed: that memory and ideal SRAM may differ, and why demand 3 has its hypotheses.
+-- Small runs, computed: that memory and ideal SRAM may differ, a word leaving before the memory holds it, and why demand 3 has its hypotheses.
 use Prim.Native.Nat.{ℕ}
 use mathlib.Core.Path.{_≡_}
 use mathlib.Core.List.{List, [], _∷_, map}
@@ -39,7 +39,7 @@ abbrev pub ideals : Setup → List Operation → ℕ → List ℕ → List ℕ
 ideals g ops a cycles = map (λ (n : ℕ). sram (startWord g (zeros g)) (history g (zeros g) (take n ops)) (record { 0 = a })) cycles
 
 ------------------------------------------------------------------------
--- P7: the memory lags behind the ideal SRAM, and never holds 5; every word handed out agrees all the same
+-- P7: the memory lags behind the ideal SRAM, and never holds 5; every word handed out is the ideal SRAM's all the same
 
 abbrev pub p7 : Setup
 p7 = record { mode = 1; a = 1; s = 0; m = 1; k = 1; delta = 1; c = 2; u = 1; v = 0 }
@@ -51,6 +51,16 @@ abbrev pub MemoryLags : Type 0
 MemoryLags =
     (memories p7 twice 0 (1 ∷ 2 ∷ 3 ∷ 4 ∷ 5 ∷ []) ≡ 0 ∷ 0 ∷ 0 ∷ 0 ∷ 6 ∷ [])
     × (ideals p7 twice 0 (1 ∷ 2 ∷ 3 ∷ 4 ∷ 5 ∷ []) ≡ 5 ∷ 6 ∷ 6 ∷ 6 ∷ 6 ∷ [])
+
+-- with a read behind the writes: call 3 hands out 6, and the memory holds 0 before and after it
+abbrev pub thenRead : List Operation
+thenRead = write 0 5 ∷ write 0 6 ∷ read 0 ∷ Idle ∷ Idle ∷ []
+
+abbrev pub WordBeforeMemory : Type 0
+WordBeforeMemory =
+    (heard p7 thenRead ≡ (0, None) ∷ (0, None) ∷ (0, None) ∷ (0, Word 6) ∷ (0, None) ∷ [])
+    × (memories p7 thenRead 0 (1 ∷ 2 ∷ 3 ∷ 4 ∷ 5 ∷ []) ≡ 0 ∷ 0 ∷ 0 ∷ 0 ∷ 6 ∷ [])
+    × (ideals p7 thenRead 0 (1 ∷ 2 ∷ 3 ∷ 4 ∷ 5 ∷ []) ≡ 5 ∷ 6 ∷ 6 ∷ 6 ∷ 6 ∷ [])
 
 ------------------------------------------------------------------------
 -- Two depths: one bank served in every second cycle, Δ = C = 4, one place against two
