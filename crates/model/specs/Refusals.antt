@@ -4,7 +4,7 @@ use mathlib.Core.Path.{_≡_}
 use mathlib.Core.Logic.{_↔_}
 use mathlib.Core.Bool.{Bool, true}
 use mathlib.Core.List.{List}
-use lib.Dec.{ltb}
+use lib.Dec.{ltb, eqb}
 use Rattle.answers.specs.Answers.{done, badSetup, badLength, badState, badAddress, stopped}
 use Rattle.choice.specs.Choice.{pick}
 use Rattle.setup.specs.Setup.{withDefaults, inRange, wordsOf, banksOf}
@@ -15,7 +15,7 @@ use Rattle.model.specs.declared.State.{State}
 use Rattle.model.specs.Lent.{Lent, Buffers, rowAt, oldestOf, countOf}
 use Rattle.model.specs.Range.{lengthsOk, waitingEntry, numbersOk}
 use Rattle.model.specs.Cycle.{passed}
-use Rattle.model.specs.Calls.{freshState, freshLent, started, freshOf, refused, cycleOf, told, waitingOf}
+use Rattle.model.specs.Calls.{freshState, freshLent, started, freshOf, refused, cycleOf, waitingOf}
 
 ------------------------------------------------------------------------
 -- Answer 3 looks at these alone
@@ -74,15 +74,16 @@ RefusesInOrder =
     (refused badLength t x))
     (refused badSetup t x)
 
--- a question: 1 to 4, and else the buffer's count
+-- a question: 1 to 4; else it tells the buffer's count, and a refused one 0
 abbrev pub TellsInOrder : Type 0
 TellsInOrder =
     (g : Setup) (t : State) (b : ℕ) (x : Lent)
-    → waitingOf g t b x
+    → (waitingOf g t b x .answer
     ≡ pick (inRange (withDefaults g))
     (pick (lengthsOk (withDefaults g) x)
     (pick (numbersOk (withDefaults g) t (x .rows) (x .buffers))
-    (pick (ltb b (banksOf (withDefaults g))) (told done (countOf (x .buffers .heads) b)) (told badAddress 0))
-    (told badState 0))
-    (told badLength 0))
-    (told badSetup 0)
+    (pick (ltb b (banksOf (withDefaults g))) done badAddress)
+    badState)
+    badLength)
+    badSetup)
+    × (waitingOf g t b x .count ≡ pick (eqb (waitingOf g t b x .answer) done) (countOf (x .buffers .heads) b) 0)
