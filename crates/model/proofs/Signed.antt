@@ -168,9 +168,9 @@ nothing-else g w ops op h = go (tells-run g w ops op h)
   where
     go : Tells (withDefaults g) (startWord g w) op (ledgerAt g w ops) (replyAt g w ops op)
         → (Passes (replyAt g w ops op .answer) × (replyAt g w ops op .delivery ≡ due (startWord g w) (drop (withDefaults g .delta - 1) (history g w ops))))
-        ⊎ (replyAt g w ops op .delivery ≡ None)
+        ⊎ (((replyAt g w ops op .answer ≡ stopped) ⊎ (replyAt g w ops op .answer ≡ badAddress)) × (replyAt g w ops op .delivery ≡ None))
     go (inl p) = inl (p .0, rw (history-run g w h ops) (p .1 .0))
-    go (inr p) = inr (p .1)
+    go (inr p) = inr p
 
 due-ready : (start : Address → ℕ) (past : List Operation) → due start past ≡ Unready → ⊥
 due-ready start [] e = let z : _≡_ {A = ℕ} 0 1 = cc in absurd (omega arith)

@@ -92,13 +92,13 @@ ReadLeaves =
     → Passes (replyAt g w (ops ++ Read a ∷ more) op .answer)
     → replyAt g w (ops ++ Read a ∷ more) op .delivery ≡ Word (sram (startWord g w) (history g w ops) a)
 
--- nothing else is ever delivered: what is due for cycle t − Δ, and on a refusal none
+-- nothing else is ever delivered: what is due for cycle t − Δ, and none where the call is refused, by 7 or 4
 abbrev pub NothingElse : Type 0
 NothingElse =
     (g : Setup) (w : Machine) (ops : List Operation) (op : Operation) → Starts g w
     → (Passes (replyAt g w ops op .answer)
     × (replyAt g w ops op .delivery ≡ due (startWord g w) (drop (withDefaults g .delta - 1) (history g w ops))))
-    ⊎ (replyAt g w ops op .delivery ≡ None)
+    ⊎ (((replyAt g w ops op .answer ≡ stopped) ⊎ (replyAt g w ops op .answer ≡ badAddress)) × (replyAt g w ops op .delivery ≡ None))
 
 abbrev pub NeverUnready : Type 0
 NeverUnready =
