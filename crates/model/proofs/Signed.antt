@@ -13,7 +13,7 @@ use Rattle.answers.specs.Answers.{done, badAddress, dropped, stopping, stopped}
 use Rattle.choice.specs.Choice.{pick}
 use Rattle.setup.specs.declared.Setup.{Setup}
 use Rattle.setup.specs.declared.Checked.the-variants.{Good as InRange}
-use Rattle.setup.specs.Setup.{Ranges, banksOf, merging, withDefaults, checkedOf}
+use Rattle.setup.specs.Setup.{banksOf, merging, withDefaults, checkedOf}
 use Rattle.map.specs.declared.Address.{Address}
 use Rattle.port.specs.declared.Operation.{Operation}
 use Rattle.port.specs.declared.Operation.the-variants.{Idle, Read, Write}
@@ -33,18 +33,17 @@ use Rattle.model.specs.Sram.{sram, due}
 use Rattle.model.specs.Ledger.{Ledger, freshLedger, waits, serviced, retires, arrives, full, ended, entered}
 use Rattle.model.specs.Promises.{Starts, reached, startWord, replyAt, promised, booked, ledgerAt, passing, historyFrom, history, Passes, Emulates, ReadLeaves, NothingElse, NeverUnready, StopsExactly, DropsExactly, NeverBadState, TellsWaiting, RefusesWhole, StampsCycles, TurnsApart}
 use Rattle.choice.proofs.Tests.{pick-map}
-use Rattle.theory.proofs.Concrete.{Legal, CSt, CRun, on, off, reachedC}
+use Rattle.theory.proofs.Concrete.{Legal, CSt, CRun, on, off}
 use Rattle.theory.proofs.Machine.{Run}
 use Rattle.theory.proofs.Machine as M
-use Rattle.theory.proofs.Port.{Matches, byCycle, same-state, turn-position}
-use Rattle.model.proofs.Ready.{c-least-one}
+use Rattle.theory.proofs.Port.{Matches, byCycle, same-state}
 use Rattle.model.proofs.Calls.{checked-ranges, ready-standing}
 use Rattle.model.proofs.Starts.{starts-checked}
 use Rattle.model.proofs.Steps.{passed-answer}
 use Rattle.model.proofs.Config.{configOf, legal}
 use Rattle.model.proofs.Shown.{shown}
-use Rattle.model.proofs.Shows.{waiting-shown, on-shown}
-use Rattle.model.proofs.Books.{BooksRun, books-waits, books-length}
+use Rattle.model.proofs.Shows.{waiting-shown}
+use Rattle.model.proofs.Books.{BooksRun, books-waits}
 use Rattle.model.proofs.Entered.{entered-by, entered-past, retiredTo, Way, takes, drops, halts, way, way-delivers, way-stamps, way-passes, booked-append}
 use Rattle.model.proofs.Follows.{Follows, follows-fresh, follows-reply, follows-after}
 
@@ -360,39 +359,7 @@ refuses-in (Sound s) t op x = go (eqb (offeredOf s t op) done)
 pub refuses-whole : RefusesWhole
 refuses-whole g t op x = refuses-in (standingOf g t x) t op x
 
--- the turn and the position of what is reached are its cycle number's
-module _ (g : Setup) (w : Machine) (h : Starts g w) where
-  abbrev range : Ranges (withDefaults g)
-  range = checked-ranges g (withDefaults g) (starts-checked g w h)
-
-  turn-of : (m : Machine) (l : Ledger) → Follows g w m l → m .0 .stopped ≡ false
-      → (m .0 .turn ≡ length (l .past) % withDefaults g .m) × (m .0 .position ≡ length (l .past) % withDefaults g .c)
-  turn-of m l k f = (p .0 ∙ ap (λ (n : ℕ). n % z .m) long, p .1 ∙ ap (λ (n : ℕ). n % suc (z .c - 1)) long ∙ ap (λ (n : ℕ). length (l .past) % n) whole)
-    where
-      z : Setup
-      z = withDefaults g
-
-      words : ℕ → ℕ
-      words c = getD (w .1 .memory) c 0
-
-      shows-on : reachedC (merging z) (configOf z) (z .k) words (k .ops) ≡ on (shown z (m .0) (m .1))
-      shows-on = sym (k .shows) ∙ on-shown z (m .0) (m .1) f
-
-      p : (m .0 .turn ≡ length (k .ops) % z .m) × (m .0 .position ≡ length (k .ops) % suc (z .c - 1))
-      p = turn-position (merging z) (configOf z) (z .k) words (legal z range) (k .ops) (shown z (m .0) (m .1)) shows-on
-
-      -- as many operations have passed as the machine's rows record
-      long : length (k .ops) ≡ length (l .past)
-      long =
-          go (byCycle (merging z) (configOf z) (z .k) words (k .ops)) (k .books)
-          (rw shows-on at (same-state (merging z) (configOf z) (z .k) words (legal z range) (k .ops)))
-        where
-          go : (n : Run ℕ) → BooksRun z (length (k .ops)) l n → Matches (on (shown z (m .0) (m .1))) n → length (k .ops) ≡ length (l .past)
-          go (M.on y) i e = sym (books-length z (length (k .ops)) l y (i .1))
-          go (M.off y) i e = absurd e
-
-      whole : suc (z .c - 1) ≡ z .c
-      whole = omega (arith, c-least-one z range)
-
 pub turns-apart : TurnsApart
-turns-apart g w ops h f = rw (history-run g w h ops) (turn-of g w h (reached g w ops) (ledgerAt g w ops) (follows-run g w h ops) f)
+turns-apart g w ops h =
+    let k : Follows g w (reached g w ops) (ledgerAt g w ops) = follows-run g w h ops in
+    rw (history-run g w h ops) (k .turns, k .places)

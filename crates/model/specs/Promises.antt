@@ -157,14 +157,15 @@ RefusesWhole =
     (g : Setup) (t : State) (op : Operation) (x : Lent)
     → Passes (cycleOf g t op x .0 .reply .answer) ⊎ (cycleOf g t op x ≡ refused (cycleOf g t op x .0 .reply .answer) t x)
 
--- the stamp is the cycle number modulo 2^32; turn and position are the cycle number's own, however long the run
+-- the stamp is the cycle number modulo 2^32
 abbrev pub StampsCycles : Type 0
 StampsCycles =
     (g : Setup) (w : Machine) (ops : List Operation) (op : Operation) → Starts g w → Passes (replyAt g w ops op .answer)
     → replyAt g w ops op .stamp ≡ length (history g w ops) % 2 ^ 32
 
+-- turn and position are the cycle number's own, however long the run; a stop leaves those of the cycle that stopped
 abbrev pub TurnsApart : Type 0
 TurnsApart =
-    (g : Setup) (w : Machine) (ops : List Operation) → Starts g w → reached g w ops .0 .stopped ≡ false
+    (g : Setup) (w : Machine) (ops : List Operation) → Starts g w
     → (reached g w ops .0 .turn ≡ length (history g w ops) % withDefaults g .m)
     × (reached g w ops .0 .position ≡ length (history g w ops) % withDefaults g .c)
