@@ -1,5 +1,5 @@
 -- Small runs, computed: that memory and ideal SRAM may differ, and why demand 3 has its hypotheses.
-use Prim.Native.Nat.{ℕ}
+use Prim.Native.Nat.{ℕ, suc}
 use mathlib.Core.Path.{_≡_}
 use mathlib.Core.List.{List, [], _∷_, map}
 use lib.ListN.{getD, take}
@@ -11,7 +11,7 @@ use Rattle.port.specs.declared.Delivery.{Delivery}
 use Rattle.port.specs.declared.Delivery.the-variants.{None, Word}
 use Rattle.port.specs.declared.Reply.{Reply}
 use Rattle.model.specs.Range.{lengthsOf, zeroed}
-use Rattle.model.specs.Calls.{freshState}
+use Rattle.model.specs.Calls.{freshState, waitingOf}
 use Rattle.model.specs.Runs.{Machine, replies, fresh}
 use Rattle.model.specs.Sram.{sram}
 use Rattle.model.specs.Promises.{reached, startWord, history}
@@ -31,12 +31,22 @@ read a = Read (record { 0 = a })
 abbrev pub write : ℕ → ℕ → Operation
 write a w = Write (record { 0 = a }) w
 
--- the memory word at cell c after each of the first cycles, and the ideal SRAM's at address a
+-- the operations up to cycle t; the first is number 0
+abbrev pub upTo : ℕ → List Operation → List Operation
+upTo t ops = take (suc t) ops
+
+-- the memory word at cell c after each of these cycles, the ideal SRAM's at address a, and what a question of bank b tells then
 abbrev pub memories : Setup → List Operation → ℕ → List ℕ → List ℕ
-memories g ops c cycles = map (λ (n : ℕ). getD (reached g (zeros g) (take n ops) .1 .memory) c 0) cycles
+memories g ops c cycles = map (λ (t : ℕ). getD (reached g (zeros g) (upTo t ops) .1 .memory) c 0) cycles
 
 abbrev pub ideals : Setup → List Operation → ℕ → List ℕ → List ℕ
-ideals g ops a cycles = map (λ (n : ℕ). sram (startWord g (zeros g)) (history g (zeros g) (take n ops)) (record { 0 = a })) cycles
+ideals g ops a cycles = map (λ (t : ℕ). sram (startWord g (zeros g)) (history g (zeros g) (upTo t ops)) (record { 0 = a })) cycles
+
+abbrev pub asked : Setup → Machine → ℕ → ℕ
+asked g (t, x) b = waitingOf g t b x .count
+
+abbrev pub counts : Setup → List Operation → ℕ → List ℕ → List ℕ
+counts g ops b cycles = map (λ (t : ℕ). asked g (reached g (zeros g) (upTo t ops)) b) cycles
 
 ------------------------------------------------------------------------
 -- P7: the memory lags behind the ideal SRAM, and never holds 5; every word handed out agrees all the same
@@ -49,8 +59,8 @@ twice = write 0 5 ∷ write 0 6 ∷ Idle ∷ Idle ∷ Idle ∷ []
 
 abbrev pub MemoryLags : Type 0
 MemoryLags =
-    (memories p7 twice 0 (1 ∷ 2 ∷ 3 ∷ 4 ∷ 5 ∷ []) ≡ 0 ∷ 0 ∷ 0 ∷ 0 ∷ 6 ∷ [])
-    × (ideals p7 twice 0 (1 ∷ 2 ∷ 3 ∷ 4 ∷ 5 ∷ []) ≡ 5 ∷ 6 ∷ 6 ∷ 6 ∷ 6 ∷ [])
+    (memories p7 twice 0 (0 ∷ 1 ∷ 2 ∷ 3 ∷ 4 ∷ []) ≡ 0 ∷ 0 ∷ 0 ∷ 0 ∷ 6 ∷ [])
+    × (ideals p7 twice 0 (0 ∷ 1 ∷ 2 ∷ 3 ∷ 4 ∷ []) ≡ 5 ∷ 6 ∷ 6 ∷ 6 ∷ 6 ∷ [])
 
 ------------------------------------------------------------------------
 -- Two depths: one bank served in every second cycle, Δ = C = 4, one place against two
