@@ -1,8 +1,8 @@
--- Small runs, computed: that memory and ideal SRAM may differ, and why demand 3 has its hypotheses.
+-- Small runs, computed: that memory and ideal SRAM may differ, why demand 3 has its hypotheses, and what the rooms hold.
 use Prim.Native.Nat.{ℕ, suc}
 use mathlib.Core.Path.{_≡_}
 use mathlib.Core.List.{List, [], _∷_, map}
-use lib.ListN.{getD, take}
+use lib.ListN.{getD, take, replicate}
 use Rattle.setup.specs.Setup.{withDefaults}
 use Rattle.setup.specs.declared.Setup.{Setup}
 use Rattle.port.specs.declared.Operation.{Operation}
@@ -10,6 +10,7 @@ use Rattle.port.specs.declared.Operation.the-variants.{Idle, Read, Write}
 use Rattle.port.specs.declared.Delivery.{Delivery}
 use Rattle.port.specs.declared.Delivery.the-variants.{None, Word}
 use Rattle.port.specs.declared.Reply.{Reply}
+use Rattle.model.specs.Lent.{Lent, lent}
 use Rattle.model.specs.Range.{lengthsOf, zeroed}
 use Rattle.model.specs.Calls.{freshState, waitingOf}
 use Rattle.model.specs.Runs.{Machine, replies, fresh}
@@ -85,3 +86,31 @@ abbrev pub DroppedReadTells : Type 0
 DroppedReadTells =
     (heard (depth 1 1) reread ≡ (0, None) ∷ (5, None) ∷ (0, None) ∷ (0, None) ∷ (0, Word 0) ∷ (0, None) ∷ [])
     × (heard (depth 1 2) reread ≡ (0, None) ∷ (0, None) ∷ (0, None) ∷ (0, None) ∷ (0, Word 0) ∷ (0, Word 0) ∷ [])
+
+------------------------------------------------------------------------
+-- What the rooms hold, number by number: the kinds of rows and entries, and a 0 where a number has no meaning
+
+-- the setups of two places above, over rooms that held 9 everywhere before the fresh start
+abbrev pub nines : Machine
+nines = (freshState, lent (9 ∷ 9 ∷ []) (replicate 16 9) (replicate 8 9) (9 ∷ 9 ∷ []))
+
+abbrev pub roomsAfter : (mode : ℕ) → List Operation → Lent
+roomsAfter mode ops = reached (depth mode 2) nines ops .1
+
+-- plain: the read of cycle 1 gets its word at cycle 2; the write of cycle 2 and the read of cycle 3 wait
+abbrev pub apart : List Operation
+apart = Idle ∷ read 1 ∷ write 0 5 ∷ read 0 ∷ []
+
+-- merging: the read of cycle 1 takes the word of the write; the read of cycle 3 waits on that of cycle 2
+abbrev pub joined : List Operation
+joined = write 0 5 ∷ read 0 ∷ read 1 ∷ read 1 ∷ []
+
+-- rows: four kinds, four addresses, four links, four words; entries: kind, row, cell, word; heads: oldest place and count
+abbrev pub RoomsHold : Type 0
+RoomsHold =
+    (roomsAfter 0 apart .rows ≡ 0 ∷ 2 ∷ 1 ∷ 3 ∷ 0 ∷ 1 ∷ 0 ∷ 0 ∷ 0 ∷ 0 ∷ 0 ∷ 3 ∷ 0 ∷ 9 ∷ 5 ∷ 0 ∷ [])
+    × (roomsAfter 0 apart .buffers .entries ≡ 0 ∷ 3 ∷ 0 ∷ 0 ∷ 1 ∷ 0 ∷ 0 ∷ 5 ∷ [])
+    × (roomsAfter 0 apart .buffers .heads ≡ 1 ∷ 2 ∷ [])
+    × (roomsAfter 1 joined .rows ≡ 1 ∷ 2 ∷ 3 ∷ 3 ∷ 0 ∷ 0 ∷ 1 ∷ 1 ∷ 0 ∷ 0 ∷ 2 ∷ 2 ∷ 5 ∷ 5 ∷ 0 ∷ 0 ∷ [])
+    × (roomsAfter 1 joined .buffers .entries ≡ 0 ∷ 2 ∷ 1 ∷ 0 ∷ 9 ∷ 9 ∷ 9 ∷ 9 ∷ [])
+    × (roomsAfter 1 joined .buffers .heads ≡ 0 ∷ 1 ∷ [])
