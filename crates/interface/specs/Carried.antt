@@ -1,22 +1,40 @@
--- What carries over to C: the numbers lose nothing, and a refusal changes nothing. proofs/Carried.antt proves it.
+-- What carries over to C: the numbers lose nothing, and each refusal comes exactly when and in the order that is written, changing nothing. proofs/Carried.antt proves it.
 use Prim.Native.Nat.{ℕ}
+use mathlib.Core.Bool.{_&&_}
 use mathlib.Core.Logic.{_⊎_}
 use mathlib.Core.Path.{_≡_}
-use Rattle.answers.specs.Answers.{done}
+use lib.Dec.{leb, ltb, eqb}
+use Rattle.answers.specs.Answers.{done, badSetup, badLength, badState, badAddress, stopped, badRecord}
+use Rattle.choice.specs.Choice.{pick}
 use Rattle.setup.specs.declared.Setup.{Setup}
-use Rattle.setup.specs.Setup.{withDefaults}
+use Rattle.setup.specs.Setup.{withDefaults, inRange, banksOf}
 use Rattle.port.specs.declared.Operation as port
 use Rattle.model.specs.declared.State as kept
 use Rattle.model.specs.Lent as room
-use Rattle.model.specs.Calls.{freshState, freshLent, cycleOf, waitingOf}
+use Rattle.model.specs.Lent.{countOf}
+use Rattle.model.specs.Range.{lengthsOk, numbersOk}
+use Rattle.model.specs.Cycle.{passed}
+use Rattle.model.specs.Calls.{freshState, freshLent, freshOf, cycleOf, waitingOf}
+use Rattle.model.specs.Refusals.{within}
 use Rattle.model.specs.Promises.{Passes}
+use Rattle.records.specs.declared.OperationRecord.{OperationRecord}
 use Rattle.forms.specs.declared.State.{State}
+use Rattle.forms.specs.declared.Started.{Started}
 use Rattle.forms.specs.declared.Operation.{Operation}
-use Rattle.forms.specs.Forms.{stateOut, operationOut, refusedBy, toldOut}
+use Rattle.forms.specs.declared.Cycled.{Cycled}
+use Rattle.forms.specs.Forms.{stateIn, stateOut, operationIn, operationOut, refusedBy, toldOut}
 use Rattle.interface.specs.Interface.{startOut, cycledWith, cycleOut, waitingOut}
 
 ------------------------------------------------------------------------
 -- C hands on the state that it got: each call then is the controller's, so demands 2 and 3 hold of what C sees
+
+-- a fresh start's answer and the state that it leaves
+abbrev pub startedBy : ℕ → State → Started
+startedBy answer t = record { answer = answer; state = t }
+
+abbrev pub SameStart : Type 0
+SameStart = (s : Setup) (t : kept.State) (x : room.Lent)
+    → startOut s (stateOut t) x ≡ (startedBy (freshOf s t x .0 .answer) (stateOut (freshOf s t x .0 .state)), freshOf s t x .1)
 
 abbrev pub SameCycle : Type 0
 SameCycle = (s : Setup) (t : kept.State) (op : port.Operation) (x : room.Lent)
@@ -29,11 +47,42 @@ SameQuestion = (s : Setup) (t : kept.State) (b : ℕ) (x : room.Lent)
 ------------------------------------------------------------------------
 -- Whatever C hands in
 
--- a fresh start is the controller's, or is refused: the state then comes back as it was, and every room stays
+-- a fresh start: 1, then 2, the state then coming back as it was and every room staying; and else it is the controller's
 abbrev pub StartsC : Type 0
 StartsC = (s : Setup) (t : State) (x : room.Lent)
-    → (startOut s t x ≡ (record { answer = done; state = stateOut freshState }, freshLent (withDefaults s) x))
-    ⊎ (startOut s t x ≡ (record { answer = startOut s t x .0 .answer; state = t }, x))
+    → startOut s t x
+    ≡ pick (inRange (withDefaults s))
+    (pick (lengthsOk (withDefaults s) x) (startedBy done (stateOut freshState), freshLent (withDefaults s) x) (startedBy badLength t, x))
+    (startedBy badSetup t, x)
+
+-- a cycle: 9, 1, 2, 3, 7, 4 in this order, a mark above 1 being a 3, and else it is the controller's
+abbrev pub inOrder : OperationRecord → Setup → State → room.Lent → Cycled × room.Lent
+inOrder OperationRecord.Bad s t x = (refusedBy badRecord t, x)
+inOrder (OperationRecord.Good op) s t x =
+    pick (inRange (withDefaults s))
+    (pick (lengthsOk (withDefaults s) x)
+    (pick (leb (t .stopped) 1 && numbersOk (withDefaults s) (stateIn t) (x .rows) (x .buffers))
+    (pick (eqb (t .stopped) 1) (refusedBy stopped t, x)
+    (pick (within (withDefaults s) op) (cycledWith (passed (withDefaults s) (stateIn t) op x)) (refusedBy badAddress t, x)))
+    (refusedBy badState t, x))
+    (refusedBy badLength t, x))
+    (refusedBy badSetup t, x)
+
+abbrev pub CyclesC : Type 0
+CyclesC = (s : Setup) (t : State) (op : Operation) (x : room.Lent) → cycleOut s t op x ≡ inOrder (operationIn op) s t x
+
+-- a question: 1 to 4, a mark above 1 being a 3; else it tells the buffer's count, and a refused one 0
+abbrev pub AsksC : Type 0
+AsksC = (s : Setup) (t : State) (b : ℕ) (x : room.Lent)
+    → (waitingOut s t b x .answer
+    ≡ pick (inRange (withDefaults s))
+    (pick (lengthsOk (withDefaults s) x)
+    (pick (leb (t .stopped) 1 && numbersOk (withDefaults s) (stateIn t) (x .rows) (x .buffers))
+    (pick (ltb b (banksOf (withDefaults s))) done badAddress)
+    badState)
+    badLength)
+    badSetup)
+    × (waitingOut s t b x .count ≡ pick (eqb (waitingOut s t b x .answer) done) (countOf (x .buffers .heads) b) 0)
 
 -- an answer that passes no cycle comes with delivery none, word and stamp 0 and the state as it was, and every room stays
 abbrev pub RefusesC : Type 0

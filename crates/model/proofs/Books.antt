@@ -177,9 +177,6 @@ pub record Books (s : Setup) (t : ℕ) (l : Ledger) (m : St ℕ) : Type 0 where
 pub books-waits : (s : Setup) (t : ℕ) (l : Ledger) (m : St ℕ) → Books s t l m → (b : ℕ) → b < banksOf s → waits l b ≡ length (m .buf b)
 books-waits s t l m i b h = let k = i .counts b h in omega arith
 
-pub books-length : (s : Setup) (t : ℕ) (l : Ledger) (m : St ℕ) → Books s t l m → length (l .past) ≡ t
-books-length s t l m i = hist-length s t (l .past) (m .row) (i .hist)
-
 serve-count : (x y : Bool) (q : List (Entry ℕ)) (placed served : ℕ) → placed ≡ served + length q → ltb 0 (placed - served) ≡ y
     → placed ≡ served + pick (x && y) 1 0 + length (pop x q)
 serve-count false y q placed served e k = omega arith

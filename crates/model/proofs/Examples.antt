@@ -6,7 +6,7 @@ use Rattle.model.specs.Range.{rowsOk, entriesOk, buffersOk}
 use Rattle.model.specs.Calls.{exactIn, standingIn, offeredOf, freshIn, stepOf, cycleIn}
 use Rattle.model.specs.Runs.{replies, afterAll}
 use Rattle.model.specs.Promises.{historyFrom}
-use Rattle.model.specs.Examples.{MemoryLags, WordBeforeMemory, DroppedWriteTells, DroppedReadTells}
+use Rattle.model.specs.Examples.{MemoryLags, WordBeforeMemory, DroppedWriteTells, DroppedReadTells, RoomsHold}
 
 pub memory-lags : MemoryLags
 unfolding cellOf bankOf filledBelow carried servedBank servedBelow scan placed retired arrived afterService passed rowsOk entriesOk buffersOk exactIn standingIn offeredOf freshIn stepOf cycleIn afterAll historyFrom
@@ -23,3 +23,7 @@ dropped-write-tells = (refl, refl)
 pub dropped-read-tells : DroppedReadTells
 unfolding cellOf bankOf filledBelow carried servedBank servedBelow scan placed retired arrived afterService passed rowsOk entriesOk buffersOk exactIn standingIn offeredOf freshIn stepOf cycleIn replies
 dropped-read-tells = (refl, refl)
+
+pub rooms-hold : RoomsHold
+unfolding cellOf bankOf filledBelow carried servedBank servedBelow scan placed retired arrived afterService passed rowsOk entriesOk buffersOk exactIn standingIn offeredOf freshIn stepOf cycleIn afterAll
+rooms-hold = (refl, refl, refl, refl, refl, refl)

@@ -1,10 +1,10 @@
 -- The invariant `Follows` of a machine and a ledger: it holds after every fresh start, and every call keeps it with equal replies. Assumes nothing.
-use Prim.Native.Nat.{ℕ, suc, _+_, _-_, _%_, _^_}
+use Prim.Native.Nat.{ℕ, suc, _+_, _-_, _%_, _^_, _<_}
 use mathlib.Core.Path.{_≡_, refl, sym, ap, subst, _∙_}
 use mathlib.Core.Logic.{inl, inr}
 use mathlib.Core.Bool.{Bool, true, false, true≢false}
 use mathlib.Core.List.{List, [], _∷_, _++_}
-use native.Mathlib.Nat.{mod-add-mod}
+use native.Mathlib.Nat.{mod-lt, mod-eq-of-lt, mod-add-mod}
 use native.Mathlib.Numerals.{add-one}
 use native.Mathlib.Omega.{arith}
 use lib.Dec.{eqb}
@@ -29,18 +29,21 @@ use Rattle.model.specs.Sram.{due}
 use Rattle.model.specs.Ledger.{Ledger, freshLedger, serviced, replied, entered}
 use Rattle.model.specs.Promises as P
 use Rattle.model.specs.Promises.{Starts, startWord}
+use Rattle.rings.specs.Places.{onward}
 use Rattle.theory.proofs.Operations as T
 use Rattle.theory.proofs.Calls.{after-last}
 use Rattle.theory.proofs.Concrete.{CRun, on, off, cycleC, replyC, freshC, reachedC}
 use Rattle.theory.proofs.Machine.{Run, reply, gives}
 use Rattle.theory.proofs.Machine as M
 use Rattle.theory.proofs.Port.{Matches, byCycle, by-fresh, by-next, same-reply, same-state, owes}
-use Rattle.model.proofs.Ready.{passed-ready, fresh-ready}
+use Rattle.theory.proofs.Turns.{mod-onward}
+use Rattle.model.proofs.Ready.{c-least-one, passed-ready, fresh-ready}
 use Rattle.model.proofs.Calls.{checked-ranges, ready-cycle}
 use Rattle.model.proofs.Starts.{starts-checked, starts-lengths, fresh-machine}
 use Rattle.model.proofs.Steps.{stateBy, passed-answer, passed-state, passed-stamp}
 use Rattle.model.proofs.Config.{configOf, legal, shownOp, shownDelivery}
 use Rattle.model.proofs.Shown.{shown, shownRun}
+use Rattle.model.proofs.ShownPlaces.{onward-shown}
 use Rattle.model.proofs.Shows.{fresh-shown, passed-delivery}
 use Rattle.model.proofs.Shows as shows
 use Rattle.model.proofs.Entered.{entered-past, entered-halted, entered-refused, entered-passes, way, way-delivers, way-stamps, Held, held-entered}
@@ -67,6 +70,12 @@ same-replies r e a d t = rw (← a, ← d, ← t)
 one-more : (n : ℕ) → (n % 2 ^ 32 + 1) % 2 ^ 32 ≡ suc n % 2 ^ 32
 one-more n = mod-add-mod n (2 ^ 32) 1 ∙ ap (λ (k : ℕ). k % 2 ^ 32) (add-one n)
 
+one-round : (m p n : ℕ) → 0 < m → p ≡ n % m → onward m p 1 ≡ suc n % m
+one-round m p n h e =
+    ap (λ (q : ℕ). onward m q 1) e
+    ∙ sym (onward-shown m (n % m) (mod-lt n h))
+    ∙ mod-onward m n h
+
 ------------------------------------------------------------------------
 -- The invariant
 
@@ -92,6 +101,8 @@ module _ (g : Setup) (w₀ : Machine) where
     pub books : BooksRun s (length ops) l (byC ops)
     pub held : Held s l
     pub stamps : w .0 .stamp ≡ length (l .past) % 2 ^ 32
+    pub turns : w .0 .turn ≡ length (l .past) % s .m
+    pub places : w .0 .position ≡ length (l .past) % s .c
 
   pub follows-fresh : Starts g w₀ → Follows (fresh g w₀) freshLedger
   follows-fresh h =
@@ -106,6 +117,8 @@ module _ (g : Setup) (w₀ : Machine) where
         books = subst (BooksRun s 0 freshLedger) (sym (by-fresh (merging s) (configOf s) (s .k) words)) (books-fresh s words);
         held = λ b. omega arith;
         stamps = refl;
+        turns = sym (mod-eq-of-lt (r .sizes .m-least));
+        places = sym (mod-eq-of-lt (c-least-one s r));
       })
 
   module _ (start : Starts g w₀) (w : Machine) (l : Ledger) (k : Follows w l) (op : Operation) where
@@ -219,12 +232,25 @@ module _ (g : Setup) (w₀ : Machine) where
       stamp-by n (inr (inl p)) = rw p (rw (k .stamps) (one-more (length (l .past))))
       stamp-by n (inr (inr p)) = rw p (k .stamps)
 
-      stamp-on : r .0 .state .stamp ≡ length (e .1 .past) % 2 ^ 32
-      stamp-on =
-          ap (λ (t : State). t .stamp) (passed-state s (w .0) op (w .1))
-          ∙ stamp-by (r .0 .reply .answer) (passed-answer s (w .0) op (w .1))
-          ∙ ap (λ (n : ℕ). length (P.passing n op (l .past)) % 2 ^ 32) answers
-          ∙ sym (ap (λ (p : List Operation). length p % 2 ^ 32) (entered-past s (startWord g w₀) op l))
+      -- turn and position count on with past, but for a stop
+      turn-by : (n : ℕ) → P.Passes n → stateBy s (w .0) n .turn ≡ length (P.passing n op (l .past)) % s .m
+      turn-by n (inl p) = rw p (one-round (s .m) (w .0 .turn) (length (l .past)) (ranges .sizes .m-least) (k .turns))
+      turn-by n (inr (inl p)) = rw p (one-round (s .m) (w .0 .turn) (length (l .past)) (ranges .sizes .m-least) (k .turns))
+      turn-by n (inr (inr p)) = rw p (k .turns)
+
+      place-by : (n : ℕ) → P.Passes n → stateBy s (w .0) n .position ≡ length (P.passing n op (l .past)) % s .c
+      place-by n (inl p) = rw p (one-round (s .c) (w .0 .position) (length (l .past)) (c-least-one s ranges) (k .places))
+      place-by n (inr (inl p)) = rw p (one-round (s .c) (w .0 .position) (length (l .past)) (c-least-one s ranges) (k .places))
+      place-by n (inr (inr p)) = rw p (k .places)
+
+      -- what the state counts, once it counts on with past
+      counted : (f : State → ℕ) (m : ℕ) → ((n : ℕ) → P.Passes n → f (stateBy s (w .0) n) ≡ length (P.passing n op (l .past)) % m)
+          → f (r .0 .state) ≡ length (e .1 .past) % m
+      counted f m counts =
+          ap f (passed-state s (w .0) op (w .1))
+          ∙ counts (r .0 .reply .answer) (passed-answer s (w .0) op (w .1))
+          ∙ ap (λ (n : ℕ). length (P.passing n op (l .past)) % m) answers
+          ∙ sym (ap (λ (p : List Operation). length p % m) (entered-past s (startWord g w₀) op l))
 
       books-on : BooksRun s (length (k .ops ++ o ∷ [])) (e .1) (byC (k .ops ++ o ∷ []))
       books-on =
@@ -246,7 +272,9 @@ module _ (g : Setup) (w₀ : Machine) where
                   ∙ sym (after-last (cycleC (merging s) (configOf s) (s .k)) (k .ops) o (on (freshC (configOf s) words)));
               books = books-on;
               held = held-entered s (startWord g w₀) op l (k .held);
-              stamps = stamp-on;
+              stamps = counted (λ (t : State). t .stamp) (2 ^ 32) stamp-by;
+              turns = counted (λ (t : State). t .turn) (s .m) turn-by;
+              places = counted (λ (t : State). t .position) (s .c) place-by;
             },
           )
 

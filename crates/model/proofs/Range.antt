@@ -12,6 +12,7 @@ use Rattle.model.specs.declared.Row.{Row}
 use Rattle.model.specs.declared.Entry.{Entry}
 use Rattle.model.specs.Lent.{Lent, Buffers, emptyKind, waitingKind, rowAt, readEntry, writeEntry, oldestOf, countOf}
 use Rattle.model.specs.Range.{lengthsOk, rowOk, rowsOk, entryOk, waitingEntry, entriesOk, headOk, bufferOk, buffersOk, numbersOk, Good, Ready}
+use Rattle.model.specs.Refusals.{NumbersFit, NumbersExactly}
 use Rattle.choice.proofs.Tests.{and-true, or-true, or-r, not-or-true, not-or-r}
 use Rattle.flat.proofs.Below.{each-below, all-below}
 
@@ -110,6 +111,46 @@ module _ (s : Setup) (q : Buffers) (b : ℕ) where
 
     pub buffer-entries : (i : ℕ) → i < countOf (q .heads) b → entryOk (wordsOf s) (s .c) (waitingEntry s q b i) ≡ true
     buffer-entries = entries-each s q b (countOf (q .heads) b) (and-r (headOk s (q .heads) b) _ h)
+
+------------------------------------------------------------------------
+-- The test of 3 is past exactly when every number that it looks at fits
+
+module _ (s : Setup) (t : State) (rows : List ℕ) (q : Buffers) where
+  numbers-fit : numbersOk s t rows q ≡ true → NumbersFit s t rows q
+  numbers-fit h =
+      let row : (i : ℕ) → i < s .c → rowOk (wordsOf s) (s .c) (rowAt (s .c) rows i) ≡ true
+      = rows-each (wordsOf s) (s .c) rows (s .c) (search (and-l, and-r)) in
+      let buffer : (b : ℕ) → b < banksOf s → bufferOk s q b ≡ true = buffers-each s q (banksOf s) (search (and-l, and-r)) in
+      let entry : (b i : ℕ) → b < banksOf s → i < countOf (q .heads) b → entryOk (wordsOf s) (s .c) (waitingEntry s q b i) ≡ true
+      = λ b i l. buffer-entries s q b (buffer b l) i in
+      record {
+        turn = search (and-l, and-r, ltb-true);
+        position = search (and-l, and-r, ltb-true);
+        count = λ b l. head-count s (q .heads) b (buffer-head s q b (buffer b l));
+        oldest = λ b l. head-oldest s (q .heads) b (buffer-head s q b (buffer b l));
+        link = λ i l. row-link (wordsOf s) (s .c) (rowAt (s .c) rows i) (row i l);
+        row = λ b i l k. entry-row (wordsOf s) (s .c) (waitingEntry s q b i) (entry b i l k);
+        address = λ i l. row-address (wordsOf s) (s .c) (rowAt (s .c) rows i) (row i l);
+        cell = λ b i l k. entry-cell (wordsOf s) (s .c) (waitingEntry s q b i) (entry b i l k);
+        row-kind = λ i l. row-kind (wordsOf s) (s .c) (rowAt (s .c) rows i) (row i l);
+        entry-kind = λ b i l k. entry-kind (wordsOf s) (s .c) (waitingEntry s q b i) (entry b i l k);
+      }
+
+  fit-numbers : NumbersFit s t rows q → numbersOk s t rows q ≡ true
+  fit-numbers f =
+      let every-row : rowsOk (wordsOf s) (s .c) rows (s .c) ≡ true
+      = rows-all (wordsOf s) (s .c) rows (s .c)
+      (λ i l. row-ok (wordsOf s) (s .c) (rowAt (s .c) rows i) (f .row-kind i l) (f .address i l) (f .link i l)) in
+      let every-buffer : buffersOk s q (banksOf s) ≡ true
+      = buffers-all s q (banksOf s)
+      (λ b l. buffer-ok s q b (head-ok s (q .heads) b (f .oldest b l) (f .count b l))
+      (λ i k. entry-ok (wordsOf s) (s .c) (waitingEntry s q b i) (f .entry-kind b i l k) (f .cell b i l k) (f .row b i l k))) in
+      let turn : t .turn < s .m = f .turn in
+      let position : t .position < s .c = f .position in
+      search (and-true, lt-ltb, every-row, every-buffer)
+
+pub numbers-exactly : NumbersExactly
+numbers-exactly s t rows q = (numbers-fit s t rows q, fit-numbers s t rows q)
 
 ------------------------------------------------------------------------
 -- The tests of 2 and 3 are past exactly when the lent slices are good and turn and position in range

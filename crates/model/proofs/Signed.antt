@@ -5,15 +5,15 @@ use mathlib.Core.Logic.{_⊎_, inl, inr, _↔_, _≢_}
 use mathlib.Core.Bool.{Bool, true, false, true≢false}
 use mathlib.Core.List.{List, [], _∷_, _++_, append-assoc}
 use native.Mathlib.Omega.{arith}
-use lib.Dec.{eqb}
+use lib.Dec.{ltb, eqb}
 use lib.ListN.{length, getD, drop, length-append}
 use lib.Seq.{drop-at}
-use borrow.Author.Tests.{lt-ltb}
+use borrow.Author.Tests.{ltb-true}
 use Rattle.answers.specs.Answers.{done, badAddress, dropped, stopping, stopped}
 use Rattle.choice.specs.Choice.{pick}
 use Rattle.setup.specs.declared.Setup.{Setup}
 use Rattle.setup.specs.declared.Checked.the-variants.{Good as InRange}
-use Rattle.setup.specs.Setup.{Ranges, banksOf, merging, withDefaults, checkedOf}
+use Rattle.setup.specs.Setup.{banksOf, merging, withDefaults, checkedOf}
 use Rattle.map.specs.declared.Address.{Address}
 use Rattle.port.specs.declared.Operation.{Operation}
 use Rattle.port.specs.declared.Operation.the-variants.{Idle, Read, Write}
@@ -21,6 +21,7 @@ use Rattle.port.specs.declared.Delivery.{Delivery}
 use Rattle.port.specs.declared.Delivery.the-variants.{None, Unready, Word}
 use Rattle.port.specs.declared.Reply.{Reply}
 use Rattle.model.specs.declared.State.{State}
+use Rattle.model.specs.declared.Waiting.{Waiting}
 use Rattle.model.specs.declared.Standing.{Standing}
 use Rattle.model.specs.declared.Standing.the-variants.{Sound, Refusal}
 use Rattle.model.specs.Lent.{Lent, countOf}
@@ -31,18 +32,18 @@ use Rattle.model.specs.Runs.{Machine, replyOf, replies, after, afterAll,
 use Rattle.model.specs.Sram.{sram, due}
 use Rattle.model.specs.Ledger.{Ledger, freshLedger, waits, serviced, retires, arrives, full, ended, entered}
 use Rattle.model.specs.Promises.{Starts, reached, startWord, replyAt, promised, booked, ledgerAt, passing, historyFrom, history, Passes, Emulates, ReadLeaves, NothingElse, NeverUnready, StopsExactly, DropsExactly, NeverBadState, TellsWaiting, RefusesWhole, StampsCycles, TurnsApart}
-use Rattle.theory.proofs.Concrete.{Legal, CSt, CRun, on, off, reachedC}
+use Rattle.choice.proofs.Tests.{pick-map}
+use Rattle.theory.proofs.Concrete.{Legal, CSt, CRun, on, off}
 use Rattle.theory.proofs.Machine.{Run}
 use Rattle.theory.proofs.Machine as M
-use Rattle.theory.proofs.Port.{Matches, byCycle, same-state, turn-position}
-use Rattle.model.proofs.Ready.{c-least-one}
+use Rattle.theory.proofs.Port.{Matches, byCycle, same-state}
 use Rattle.model.proofs.Calls.{checked-ranges, ready-standing}
 use Rattle.model.proofs.Starts.{starts-checked}
 use Rattle.model.proofs.Steps.{passed-answer}
 use Rattle.model.proofs.Config.{configOf, legal}
 use Rattle.model.proofs.Shown.{shown}
-use Rattle.model.proofs.Shows.{waiting-shown, on-shown}
-use Rattle.model.proofs.Books.{BooksRun, books-waits, books-length}
+use Rattle.model.proofs.Shows.{waiting-shown}
+use Rattle.model.proofs.Books.{BooksRun, books-waits}
 use Rattle.model.proofs.Entered.{entered-by, entered-past, retiredTo, Way, takes, drops, halts, way, way-delivers, way-stamps, way-passes, booked-append}
 use Rattle.model.proofs.Follows.{Follows, follows-fresh, follows-reply, follows-after}
 
@@ -166,9 +167,9 @@ nothing-else g w ops op h = go (tells-run g w ops op h)
   where
     go : Tells (withDefaults g) (startWord g w) op (ledgerAt g w ops) (replyAt g w ops op)
         → (Passes (replyAt g w ops op .answer) × (replyAt g w ops op .delivery ≡ due (startWord g w) (drop (withDefaults g .delta - 1) (history g w ops))))
-        ⊎ (replyAt g w ops op .delivery ≡ None)
+        ⊎ (((replyAt g w ops op .answer ≡ stopped) ⊎ (replyAt g w ops op .answer ≡ badAddress)) × (replyAt g w ops op .delivery ≡ None))
     go (inl p) = inl (p .0, rw (history-run g w h ops) (p .1 .0))
-    go (inr p) = inr (p .1)
+    go (inr p) = inr p
 
 due-ready : (start : Address → ℕ) (past : List Operation) → due start past ≡ Unready → ⊥
 due-ready start [] e = let z : _≡_ {A = ℕ} 0 1 = cc in absurd (omega arith)
@@ -288,10 +289,10 @@ read-leaves g w ops more a op h taken far k = go (tells-run g w (ops ++ Read a �
 ------------------------------------------------------------------------
 -- The question, refusals, turn and position
 
-ready-waiting : (g s : Setup) → checkedOf g ≡ InRange s → (t : State) (b : ℕ) (x : Lent) → Ready s t x → b < banksOf s
-    → waitingOf g t b x ≡ told done (countOf (x .buffers .heads) b)
+ready-waiting : (g s : Setup) → checkedOf g ≡ InRange s → (t : State) (b : ℕ) (x : Lent) → Ready s t x
+    → waitingOf g t b x ≡ pick (ltb b (banksOf s)) (told done (countOf (x .buffers .heads) b)) (told badAddress 0)
 unfolding waitingIn tellOf
-ready-waiting g s c t b x r h = rw (ready-standing g s c t x r, lt-ltb b (banksOf s) h)
+ready-waiting g s c t b x r = rw (ready-standing g s c t x r)
 
 -- a buffer holds what the ledger counts, going or stopped
 buffer-holds : (s : Setup) (t : ℕ) (l : Ledger) (m : Bool) (c : CSt ℕ) (n : Run ℕ) → Matches (pick m (off c) (on c)) n → BooksRun s t l n
@@ -302,9 +303,7 @@ buffer-holds s t l false c (M.on y) k i b h = k b ∙ sym (books-waits s t l y (
 buffer-holds s t l false c (M.off y) k i b h = absurd k
 
 pub tells-waiting : TellsWaiting
-tells-waiting g w ops b h l =
-    ready-waiting g s (starts-checked g w h) (m .0) b (m .1) (k .ready) l
-    ∙ ap (told done) count
+tells-waiting g w ops b h = (answered, tallied)
   where
     s : Setup
     s = withDefaults g
@@ -315,17 +314,36 @@ tells-waiting g w ops b h l =
     k : Follows g w m (ledgerAt g w ops)
     k = follows-run g w h ops
 
+    asked : waitingOf g (m .0) b (m .1) ≡ pick (ltb b (banksOf s)) (told done (countOf (m .1 .buffers .heads) b)) (told badAddress 0)
+    asked = ready-waiting g s (starts-checked g w h) (m .0) b (m .1) (k .ready)
+
     fits : Legal (configOf s) (s .k)
     fits = legal s (checked-ranges g s (starts-checked g w h))
 
     y : Run ℕ
     y = byCycle (merging s) (configOf s) (s .k) (λ c. getD (w .1 .memory) c 0) (k .ops)
 
-    count : countOf (m .1 .buffers .heads) b ≡ waits (ledgerAt g w ops) b
-    count =
+    count : b < banksOf s → countOf (m .1 .buffers .heads) b ≡ waits (ledgerAt g w ops) b
+    count l =
         sym (waiting-shown s (m .0) (m .1) b)
         ∙ buffer-holds s (length (k .ops)) (ledgerAt g w ops) (m .0 .stopped) (shown s (m .0) (m .1)) y
         (subst (λ (c : CRun ℕ). Matches c y) (sym (k .shows)) (same-state (merging s) (configOf s) (s .k) (λ c. getD (w .1 .memory) c 0) fits (k .ops))) (k .books) b l
+
+    -- i is whether the bank is one of the B
+    counts : (i : Bool) → ltb b (banksOf s) ≡ i → pick i (countOf (m .1 .buffers .heads) b) 0 ≡ pick i (waits (ledgerAt g w ops) b) 0
+    counts true e = count (ltb-true b (banksOf s) e)
+    counts false e = refl
+
+    answered : waitingOf g (m .0) b (m .1) .answer ≡ pick (ltb b (banksOf s)) done badAddress
+    answered =
+        ap (λ (q : Waiting). q .answer) asked
+        ∙ pick-map (λ (q : Waiting). q .answer) (ltb b (banksOf s)) (told done (countOf (m .1 .buffers .heads) b)) (told badAddress 0)
+
+    tallied : waitingOf g (m .0) b (m .1) .count ≡ pick (ltb b (banksOf s)) (waits (ledgerAt g w ops) b) 0
+    tallied =
+        ap (λ (q : Waiting). q .count) asked
+        ∙ pick-map (λ (q : Waiting). q .count) (ltb b (banksOf s)) (told done (countOf (m .1 .buffers .heads) b)) (told badAddress 0)
+        ∙ counts (ltb b (banksOf s)) refl
 
 refuses-in : (c : Standing) (t : State) (op : Operation) (x : Lent)
     → Passes (cycleIn c t op x .0 .reply .answer) ⊎ (cycleIn c t op x ≡ refused (cycleIn c t op x .0 .reply .answer) t x)
@@ -341,39 +359,7 @@ refuses-in (Sound s) t op x = go (eqb (offeredOf s t op) done)
 pub refuses-whole : RefusesWhole
 refuses-whole g t op x = refuses-in (standingOf g t x) t op x
 
--- the turn and the position of what is reached are its cycle number's
-module _ (g : Setup) (w : Machine) (h : Starts g w) where
-  abbrev range : Ranges (withDefaults g)
-  range = checked-ranges g (withDefaults g) (starts-checked g w h)
-
-  turn-of : (m : Machine) (l : Ledger) → Follows g w m l → m .0 .stopped ≡ false
-      → (m .0 .turn ≡ length (l .past) % withDefaults g .m) × (m .0 .position ≡ length (l .past) % withDefaults g .c)
-  turn-of m l k f = (p .0 ∙ ap (λ (n : ℕ). n % z .m) long, p .1 ∙ ap (λ (n : ℕ). n % suc (z .c - 1)) long ∙ ap (λ (n : ℕ). length (l .past) % n) whole)
-    where
-      z : Setup
-      z = withDefaults g
-
-      words : ℕ → ℕ
-      words c = getD (w .1 .memory) c 0
-
-      shows-on : reachedC (merging z) (configOf z) (z .k) words (k .ops) ≡ on (shown z (m .0) (m .1))
-      shows-on = sym (k .shows) ∙ on-shown z (m .0) (m .1) f
-
-      p : (m .0 .turn ≡ length (k .ops) % z .m) × (m .0 .position ≡ length (k .ops) % suc (z .c - 1))
-      p = turn-position (merging z) (configOf z) (z .k) words (legal z range) (k .ops) (shown z (m .0) (m .1)) shows-on
-
-      -- as many operations have passed as the machine's rows record
-      long : length (k .ops) ≡ length (l .past)
-      long =
-          go (byCycle (merging z) (configOf z) (z .k) words (k .ops)) (k .books)
-          (rw shows-on at (same-state (merging z) (configOf z) (z .k) words (legal z range) (k .ops)))
-        where
-          go : (n : Run ℕ) → BooksRun z (length (k .ops)) l n → Matches (on (shown z (m .0) (m .1))) n → length (k .ops) ≡ length (l .past)
-          go (M.on y) i e = sym (books-length z (length (k .ops)) l y (i .1))
-          go (M.off y) i e = absurd e
-
-      whole : suc (z .c - 1) ≡ z .c
-      whole = omega (arith, c-least-one z range)
-
 pub turns-apart : TurnsApart
-turns-apart g w ops h f = rw (history-run g w h ops) (turn-of g w h (reached g w ops) (ledgerAt g w ops) (follows-run g w h ops) f)
+turns-apart g w ops h =
+    let k : Follows g w (reached g w ops) (ledgerAt g w ops) = follows-run g w h ops in
+    rw (history-run g w h ops) (k .turns, k .places)

@@ -140,6 +140,8 @@ same-word g₁ g₂ w₁ w₂ k ops more a op taken kept far reach =
       read-leaves g₂ w₂ ops more a op (k .second) (takes g₁ g₂ w₁ w₂ k ops (Read a) taken)
           (omega (arith, cycles, cycles₀, far, k .setups .delta)) (reaches-deep g₁ g₂ w₁ w₂ k all op reach)
           ∙ ap Word (same-sram g₁ g₂ w₁ w₂ k ops a kept going),
+      cycles₀,
+      cycles,
     )
 
 pub merging-keeps-writes : MergingKeepsWrites

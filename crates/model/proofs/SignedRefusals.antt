@@ -1,6 +1,6 @@
 -- The answer table is what the calls are defined by. Assumes nothing.
 use Prim.Native.Nat.{ℕ}
-use mathlib.Core.Path.{_≡_, refl, ap, _∙_}
+use mathlib.Core.Path.{_≡_, refl, sym, ap, subst, _∙_}
 use mathlib.Core.Bool.{Bool, true, false}
 use lib.Dec.{eqb, ltb}
 use Rattle.answers.specs.Answers.{done, badSetup, badLength, badState, badAddress, stopped}
@@ -14,6 +14,7 @@ use Rattle.model.specs.declared.State.{State}
 use Rattle.model.specs.declared.Standing.{Standing}
 use Rattle.model.specs.declared.Standing.the-variants.{Sound, Refusal}
 use Rattle.model.specs.declared.Cycled.{Cycled}
+use Rattle.model.specs.declared.Waiting.{Waiting}
 use Rattle.model.specs.Lent.{Lent, countOf}
 use Rattle.model.specs.Range.{lengthsOk, numbersOk}
 use Rattle.model.specs.Cycle.{passed}
@@ -104,23 +105,32 @@ refuses-in-order g t op x =
 ------------------------------------------------------------------------
 -- A question
 
-waiting-by : (s : Setup) (bank : ℕ) (x : Lent) (b l n : Bool)
-    → waitingIn (standing s b l n) bank x
-    ≡ pick b
-    (pick l
-    (pick n
-    (pick (ltb bank (banksOf s)) (told done (countOf (x .buffers .heads) bank)) (told badAddress 0))
-    (told badState 0))
-    (told badLength 0))
-    (told badSetup 0)
-unfolding waitingIn tellOf
-waiting-by s bank x true true true = refl
-waiting-by s bank x true true false = refl
-waiting-by s bank x true false n = refl
-waiting-by s bank x false l n = refl
+-- it answers n, and tells this count where n is 0
+abbrev Tells : ℕ → ℕ → Waiting → Type 0
+Tells n count w = (w .answer ≡ n) × (w .count ≡ pick (eqb (w .answer) done) count 0)
+
+module _ (s : Setup) (bank : ℕ) (x : Lent) where
+  abbrev count : ℕ
+  count = countOf (x .buffers .heads) bank
+
+  -- k is whether the bank is one of the B
+  tell-by : (k : Bool) → Tells (pick k done badAddress) count (pick k (told done count) (told badAddress 0))
+  tell-by true = (refl, refl)
+  tell-by false = (refl, refl)
+
+  waiting-by : (b l n : Bool)
+      → Tells (pick b (pick l (pick n (pick (ltb bank (banksOf s)) done badAddress) badState) badLength) badSetup) count
+      (waitingIn (standing s b l n) bank x)
+  unfolding waitingIn tellOf
+  waiting-by true true true = tell-by (ltb bank (banksOf s))
+  waiting-by true true false = (refl, refl)
+  waiting-by true false n = (refl, refl)
+  waiting-by false l n = (refl, refl)
 
 pub tells-in-order : TellsInOrder
 tells-in-order g t b x =
     let s : Setup = withDefaults g in
-    ap (λ (r : Standing). waitingIn r b x) (standing-table g t x)
-    ∙ waiting-by s b x (inRange s) (lengthsOk s x) (numbersOk s t (x .rows) (x .buffers))
+    subst
+    (λ (r : Standing). Tells (pick (inRange s) (pick (lengthsOk s x) (pick (numbersOk s t (x .rows) (x .buffers)) (pick (ltb b (banksOf s)) done badAddress) badState) badLength) badSetup) (countOf (x .buffers .heads) b) (waitingIn r b x))
+    (sym (standing-table g t x))
+    (waiting-by s b x (inRange s) (lengthsOk s x) (numbersOk s t (x .rows) (x .buffers)))

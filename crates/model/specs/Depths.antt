@@ -50,7 +50,8 @@ DeeperTakes =
 
 ------------------------------------------------------------------------
 -- A read the shallower takes, of an address none of whose earlier writes it dropped,
--- gives the same word in the same cycle from both, once that cycle is reached: without merging, and with it
+-- gives the same word in the same cycle from both, once that cycle is reached: without merging, and with it.
+-- As many cycles have passed in both before the read is taken, and before its word leaves
 
 -- of these operations and their replies: no write to a was dropped
 abbrev pub WritesKept : Address → List Operation → List Reply → Type 0
@@ -67,6 +68,8 @@ SameWord =
     → Passes (replyAt g₁ w₁ (ops ++ Read a ∷ more) op .answer)
     → (replyAt g₁ w₁ (ops ++ Read a ∷ more) op .delivery ≡ Word (sram (startWord g₁ w₁) (history g₁ w₁ ops) a))
     × (replyAt g₂ w₂ (ops ++ Read a ∷ more) op .delivery ≡ Word (sram (startWord g₁ w₁) (history g₁ w₁ ops) a))
+    × (length (history g₂ w₂ ops) ≡ length (history g₁ w₁ ops))
+    × (length (history g₂ w₂ (ops ++ Read a ∷ more)) ≡ length (history g₁ w₁ (ops ++ Read a ∷ more)))
 
 -- with merging no write is ever dropped
 abbrev pub MergingKeepsWrites : Type 0

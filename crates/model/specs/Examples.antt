@@ -1,8 +1,9 @@
--- Small runs, computed: that memory and ideal SRAM may differ, a word leaving before the memory holds it, and why demand 3 has its hypotheses.
-use Prim.Native.Nat.{ℕ}
+-- Small runs, computed: that memory and ideal SRAM may differ, a word leaving before the memory holds it, why demand 3 has its
+-- hypotheses, and what the rooms hold.
+use Prim.Native.Nat.{ℕ, suc}
 use mathlib.Core.Path.{_≡_}
 use mathlib.Core.List.{List, [], _∷_, map}
-use lib.ListN.{getD, take}
+use lib.ListN.{getD, take, replicate}
 use Rattle.setup.specs.Setup.{withDefaults}
 use Rattle.setup.specs.declared.Setup.{Setup}
 use Rattle.port.specs.declared.Operation.{Operation}
@@ -10,8 +11,9 @@ use Rattle.port.specs.declared.Operation.the-variants.{Idle, Read, Write}
 use Rattle.port.specs.declared.Delivery.{Delivery}
 use Rattle.port.specs.declared.Delivery.the-variants.{None, Word}
 use Rattle.port.specs.declared.Reply.{Reply}
+use Rattle.model.specs.Lent.{Lent, lent}
 use Rattle.model.specs.Range.{lengthsOf, zeroed}
-use Rattle.model.specs.Calls.{freshState}
+use Rattle.model.specs.Calls.{freshState, waitingOf}
 use Rattle.model.specs.Runs.{Machine, replies, fresh}
 use Rattle.model.specs.Sram.{sram}
 use Rattle.model.specs.Promises.{reached, startWord, history}
@@ -31,12 +33,22 @@ read a = Read (record { 0 = a })
 abbrev pub write : ℕ → ℕ → Operation
 write a w = Write (record { 0 = a }) w
 
--- the memory word at cell c after each of the first cycles, and the ideal SRAM's at address a
+-- the operations up to cycle t; the first is number 0
+abbrev pub upTo : ℕ → List Operation → List Operation
+upTo t ops = take (suc t) ops
+
+-- the memory word at cell c after each of these cycles, the ideal SRAM's at address a, and what a question of bank b tells then
 abbrev pub memories : Setup → List Operation → ℕ → List ℕ → List ℕ
-memories g ops c cycles = map (λ (n : ℕ). getD (reached g (zeros g) (take n ops) .1 .memory) c 0) cycles
+memories g ops c cycles = map (λ (t : ℕ). getD (reached g (zeros g) (upTo t ops) .1 .memory) c 0) cycles
 
 abbrev pub ideals : Setup → List Operation → ℕ → List ℕ → List ℕ
-ideals g ops a cycles = map (λ (n : ℕ). sram (startWord g (zeros g)) (history g (zeros g) (take n ops)) (record { 0 = a })) cycles
+ideals g ops a cycles = map (λ (t : ℕ). sram (startWord g (zeros g)) (history g (zeros g) (upTo t ops)) (record { 0 = a })) cycles
+
+abbrev pub asked : Setup → Machine → ℕ → ℕ
+asked g (t, x) b = waitingOf g t b x .count
+
+abbrev pub counts : Setup → List Operation → ℕ → List ℕ → List ℕ
+counts g ops b cycles = map (λ (t : ℕ). asked g (reached g (zeros g) (upTo t ops)) b) cycles
 
 ------------------------------------------------------------------------
 -- P7: the memory lags behind the ideal SRAM, and never holds 5; every word handed out is the ideal SRAM's all the same
@@ -49,8 +61,8 @@ twice = write 0 5 ∷ write 0 6 ∷ Idle ∷ Idle ∷ Idle ∷ []
 
 abbrev pub MemoryLags : Type 0
 MemoryLags =
-    (memories p7 twice 0 (1 ∷ 2 ∷ 3 ∷ 4 ∷ 5 ∷ []) ≡ 0 ∷ 0 ∷ 0 ∷ 0 ∷ 6 ∷ [])
-    × (ideals p7 twice 0 (1 ∷ 2 ∷ 3 ∷ 4 ∷ 5 ∷ []) ≡ 5 ∷ 6 ∷ 6 ∷ 6 ∷ 6 ∷ [])
+    (memories p7 twice 0 (0 ∷ 1 ∷ 2 ∷ 3 ∷ 4 ∷ []) ≡ 0 ∷ 0 ∷ 0 ∷ 0 ∷ 6 ∷ [])
+    × (ideals p7 twice 0 (0 ∷ 1 ∷ 2 ∷ 3 ∷ 4 ∷ []) ≡ 5 ∷ 6 ∷ 6 ∷ 6 ∷ 6 ∷ [])
 
 -- with a read behind the writes: call 3 hands out 6, and the memory holds 0 before and after it
 abbrev pub thenRead : List Operation
@@ -59,8 +71,8 @@ thenRead = write 0 5 ∷ write 0 6 ∷ read 0 ∷ Idle ∷ Idle ∷ []
 abbrev pub WordBeforeMemory : Type 0
 WordBeforeMemory =
     (heard p7 thenRead ≡ (0, None) ∷ (0, None) ∷ (0, None) ∷ (0, Word 6) ∷ (0, None) ∷ [])
-    × (memories p7 thenRead 0 (1 ∷ 2 ∷ 3 ∷ 4 ∷ 5 ∷ []) ≡ 0 ∷ 0 ∷ 0 ∷ 0 ∷ 6 ∷ [])
-    × (ideals p7 thenRead 0 (1 ∷ 2 ∷ 3 ∷ 4 ∷ 5 ∷ []) ≡ 5 ∷ 6 ∷ 6 ∷ 6 ∷ 6 ∷ [])
+    × (memories p7 thenRead 0 (0 ∷ 1 ∷ 2 ∷ 3 ∷ 4 ∷ []) ≡ 0 ∷ 0 ∷ 0 ∷ 0 ∷ 6 ∷ [])
+    × (ideals p7 thenRead 0 (0 ∷ 1 ∷ 2 ∷ 3 ∷ 4 ∷ []) ≡ 5 ∷ 6 ∷ 6 ∷ 6 ∷ 6 ∷ [])
 
 ------------------------------------------------------------------------
 -- Two depths: one bank served in every second cycle, Δ = C = 4, one place against two
@@ -85,3 +97,31 @@ abbrev pub DroppedReadTells : Type 0
 DroppedReadTells =
     (heard (depth 1 1) reread ≡ (0, None) ∷ (5, None) ∷ (0, None) ∷ (0, None) ∷ (0, Word 0) ∷ (0, None) ∷ [])
     × (heard (depth 1 2) reread ≡ (0, None) ∷ (0, None) ∷ (0, None) ∷ (0, None) ∷ (0, Word 0) ∷ (0, Word 0) ∷ [])
+
+------------------------------------------------------------------------
+-- What the rooms hold, number by number: the kinds of rows and entries, and a 0 where a number has no meaning
+
+-- the setups of two places above, over rooms that held 9 everywhere before the fresh start
+abbrev pub nines : Machine
+nines = (freshState, lent (9 ∷ 9 ∷ []) (replicate 16 9) (replicate 8 9) (9 ∷ 9 ∷ []))
+
+abbrev pub roomsAfter : (mode : ℕ) → List Operation → Lent
+roomsAfter mode ops = reached (depth mode 2) nines ops .1
+
+-- plain: the read of cycle 1 gets its word at cycle 2; the write of cycle 2 and the read of cycle 3 wait
+abbrev pub apart : List Operation
+apart = Idle ∷ read 1 ∷ write 0 5 ∷ read 0 ∷ []
+
+-- merging: the read of cycle 1 takes the word of the write; the read of cycle 3 waits on that of cycle 2
+abbrev pub joined : List Operation
+joined = write 0 5 ∷ read 0 ∷ read 1 ∷ read 1 ∷ []
+
+-- rows: four kinds, four addresses, four links, four words; entries: kind, row, cell, word; heads: oldest place and count
+abbrev pub RoomsHold : Type 0
+RoomsHold =
+    (roomsAfter 0 apart .rows ≡ 0 ∷ 2 ∷ 1 ∷ 3 ∷ 0 ∷ 1 ∷ 0 ∷ 0 ∷ 0 ∷ 0 ∷ 0 ∷ 3 ∷ 0 ∷ 9 ∷ 5 ∷ 0 ∷ [])
+    × (roomsAfter 0 apart .buffers .entries ≡ 0 ∷ 3 ∷ 0 ∷ 0 ∷ 1 ∷ 0 ∷ 0 ∷ 5 ∷ [])
+    × (roomsAfter 0 apart .buffers .heads ≡ 1 ∷ 2 ∷ [])
+    × (roomsAfter 1 joined .rows ≡ 1 ∷ 2 ∷ 3 ∷ 3 ∷ 0 ∷ 0 ∷ 1 ∷ 1 ∷ 0 ∷ 0 ∷ 2 ∷ 2 ∷ 5 ∷ 5 ∷ 0 ∷ 0 ∷ [])
+    × (roomsAfter 1 joined .buffers .entries ≡ 0 ∷ 2 ∷ 1 ∷ 0 ∷ 9 ∷ 9 ∷ 9 ∷ 9 ∷ [])
+    × (roomsAfter 1 joined .buffers .heads ≡ 0 ∷ 1 ∷ [])

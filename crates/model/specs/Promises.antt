@@ -4,7 +4,7 @@ use mathlib.Core.Path.{_≡_}
 use mathlib.Core.Logic.{_⊎_, _↔_}
 use mathlib.Core.Bool.{true, false}
 use mathlib.Core.List.{List, [], _∷_, _++_}
-use lib.Dec.{eqb}
+use lib.Dec.{ltb, eqb}
 use lib.ListN.{length, getD, drop}
 use Rattle.answers.specs.Answers.{done, badAddress, dropped, stopping, stopped}
 use Rattle.choice.specs.Choice.{pick}
@@ -18,7 +18,7 @@ use Rattle.port.specs.declared.Delivery.the-variants.{None, Unready, Word}
 use Rattle.port.specs.declared.Reply.{Reply}
 use Rattle.model.specs.declared.State.{State}
 use Rattle.model.specs.Lent.{Lent}
-use Rattle.model.specs.Calls.{freshOf, addressOk, refused, cycleOf, waitingOf, told}
+use Rattle.model.specs.Calls.{freshOf, addressOk, refused, cycleOf, waitingOf}
 use Rattle.model.specs.Runs.{Machine, replyOf, replies, after, afterAll, fresh}
 use Rattle.model.specs.Sram.{sram, due}
 use Rattle.model.specs.Ledger.{Ledger, freshLedger, waits, serviced, retires, arrives, full, given, entered}
@@ -92,13 +92,13 @@ ReadLeaves =
     → Passes (replyAt g w (ops ++ Read a ∷ more) op .answer)
     → replyAt g w (ops ++ Read a ∷ more) op .delivery ≡ Word (sram (startWord g w) (history g w ops) a)
 
--- nothing else is ever delivered: what is due for cycle t − Δ, and on a refusal none
+-- nothing else is ever delivered: what is due for cycle t − Δ, and none where the call is refused, by 7 or 4
 abbrev pub NothingElse : Type 0
 NothingElse =
     (g : Setup) (w : Machine) (ops : List Operation) (op : Operation) → Starts g w
     → (Passes (replyAt g w ops op .answer)
     × (replyAt g w ops op .delivery ≡ due (startWord g w) (drop (withDefaults g .delta - 1) (history g w ops))))
-    ⊎ (replyAt g w ops op .delivery ≡ None)
+    ⊎ (((replyAt g w ops op .answer ≡ stopped) ⊎ (replyAt g w ops op .answer ≡ badAddress)) × (replyAt g w ops op .delivery ≡ None))
 
 abbrev pub NeverUnready : Type 0
 NeverUnready =
@@ -142,11 +142,14 @@ NeverBadState =
     (g : Setup) (w : Machine) (ops : List Operation) (op : Operation) → Starts g w
     → Passes (replyAt g w ops op .answer) ⊎ ((replyAt g w ops op .answer ≡ badAddress) ⊎ (replyAt g w ops op .answer ≡ stopped))
 
--- a question tells how many entries wait at one bank: those placed less those served since the fresh start
+-- a question tells how many entries wait at one bank: those placed less those served since the fresh start;
+-- at a bank at or above B it answers 4 and tells 0. No question on a reached state gives 3
 abbrev pub TellsWaiting : Type 0
 TellsWaiting =
-    (g : Setup) (w : Machine) (ops : List Operation) (b : ℕ) → Starts g w → b < banksOf (withDefaults g)
-    → waitingOf g (reached g w ops .0) b (reached g w ops .1) ≡ told done (waits (ledgerAt g w ops) b)
+    (g : Setup) (w : Machine) (ops : List Operation) (b : ℕ) → Starts g w
+    → (waitingOf g (reached g w ops .0) b (reached g w ops .1) .answer ≡ pick (ltb b (banksOf (withDefaults g))) done badAddress)
+    × (waitingOf g (reached g w ops .0) b (reached g w ops .1) .count
+    ≡ pick (ltb b (banksOf (withDefaults g))) (waits (ledgerAt g w ops) b) 0)
 
 -- answers 1 to 4 and 7 change nothing lent and hand out nothing, on every state, reached or not
 abbrev pub RefusesWhole : Type 0
@@ -154,14 +157,15 @@ RefusesWhole =
     (g : Setup) (t : State) (op : Operation) (x : Lent)
     → Passes (cycleOf g t op x .0 .reply .answer) ⊎ (cycleOf g t op x ≡ refused (cycleOf g t op x .0 .reply .answer) t x)
 
--- the stamp is the cycle number modulo 2^32; turn and position are the cycle number's own, however long the run
+-- the stamp is the cycle number modulo 2^32
 abbrev pub StampsCycles : Type 0
 StampsCycles =
     (g : Setup) (w : Machine) (ops : List Operation) (op : Operation) → Starts g w → Passes (replyAt g w ops op .answer)
     → replyAt g w ops op .stamp ≡ length (history g w ops) % 2 ^ 32
 
+-- turn and position are the cycle number's own, however long the run; a stop leaves those of the cycle that stopped
 abbrev pub TurnsApart : Type 0
 TurnsApart =
-    (g : Setup) (w : Machine) (ops : List Operation) → Starts g w → reached g w ops .0 .stopped ≡ false
+    (g : Setup) (w : Machine) (ops : List Operation) → Starts g w
     → (reached g w ops .0 .turn ≡ length (history g w ops) % withDefaults g .m)
     × (reached g w ops .0 .position ≡ length (history g w ops) % withDefaults g .c)

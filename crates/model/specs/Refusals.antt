@@ -1,8 +1,10 @@
 -- The answer table: each call's refusals, exactly when and in which order, on every state, reached or not.
-use Prim.Native.Nat.{ℕ}
+use Prim.Native.Nat.{ℕ, _≤_, _<_}
 use mathlib.Core.Path.{_≡_}
+use mathlib.Core.Logic.{_↔_}
 use mathlib.Core.Bool.{Bool, true}
-use lib.Dec.{ltb}
+use mathlib.Core.List.{List}
+use lib.Dec.{ltb, eqb}
 use Rattle.answers.specs.Answers.{done, badSetup, badLength, badState, badAddress, stopped}
 use Rattle.choice.specs.Choice.{pick}
 use Rattle.setup.specs.Setup.{withDefaults, inRange, wordsOf, banksOf}
@@ -10,10 +12,38 @@ use Rattle.setup.specs.declared.Setup.{Setup}
 use Rattle.port.specs.declared.Operation.{Operation}
 use Rattle.port.specs.declared.Operation.the-variants.{Idle, Read, Write}
 use Rattle.model.specs.declared.State.{State}
-use Rattle.model.specs.Lent.{Lent, countOf}
-use Rattle.model.specs.Range.{lengthsOk, numbersOk}
+use Rattle.model.specs.Lent.{Lent, Buffers, rowAt, oldestOf, countOf}
+use Rattle.model.specs.Range.{lengthsOk, waitingEntry, numbersOk}
 use Rattle.model.specs.Cycle.{passed}
-use Rattle.model.specs.Calls.{freshState, freshLent, started, freshOf, refused, cycleOf, told, waitingOf}
+use Rattle.model.specs.Calls.{freshState, freshLent, started, freshOf, refused, cycleOf, waitingOf}
+
+------------------------------------------------------------------------
+-- Answer 3 looks at these alone
+
+-- a row's kind is 0 empty, 1 a write, 2 a read with its word, 3 a read that waits on the row it names; a waiting entry's 0 a read for a row, 1 a write
+pub record NumbersFit (s : Setup) (t : State) (rows : List ℕ) (q : Buffers) : Type 0 where
+  -- turn below m; row position below C
+  pub turn : t .turn < s .m
+  pub position : t .position < s .c
+  -- for each of the B buffers, count at most K and oldest place below K
+  pub count : (b : ℕ) → b < banksOf s → countOf (q .heads) b ≤ s .k
+  pub oldest : (b : ℕ) → b < banksOf s → oldestOf (q .heads) b < s .k
+  -- a row named by a row or a waiting entry below C
+  pub link : (i : ℕ) → i < s .c → rowAt (s .c) rows i .kind ≡ 3 → rowAt (s .c) rows i .link < s .c
+  pub row : (b i : ℕ) → b < banksOf s → i < countOf (q .heads) b → waitingEntry s q b i .kind ≡ 0 → waitingEntry s q b i .row < s .c
+  -- an address or cell in a row or a waiting entry below N
+  pub address : (i : ℕ) → i < s .c → (rowAt (s .c) rows i .kind ≡ 0 → ⊥) → rowAt (s .c) rows i .address .0 < wordsOf s
+  pub cell : (b i : ℕ) → b < banksOf s → i < countOf (q .heads) b → waitingEntry s q b i .cell .0 < wordsOf s
+  -- a kind that is coded as a number
+  pub row-kind : (i : ℕ) → i < s .c → rowAt (s .c) rows i .kind ≤ 3
+  pub entry-kind : (b i : ℕ) → b < banksOf s → i < countOf (q .heads) b → waitingEntry s q b i .kind ≤ 1
+
+-- its test is past exactly when they fit
+abbrev pub NumbersExactly : Type 0
+NumbersExactly = (s : Setup) (t : State) (rows : List ℕ) (q : Buffers) → (numbersOk s t rows q ≡ true) ↔ NumbersFit s t rows q
+
+------------------------------------------------------------------------
+-- The calls
 
 -- an address below N; idle has none
 abbrev pub within : Setup → Operation → Bool
@@ -44,15 +74,16 @@ RefusesInOrder =
     (refused badLength t x))
     (refused badSetup t x)
 
--- a question: 1 to 4, and else the buffer's count
+-- a question: 1 to 4; else it tells the buffer's count, and a refused one 0
 abbrev pub TellsInOrder : Type 0
 TellsInOrder =
     (g : Setup) (t : State) (b : ℕ) (x : Lent)
-    → waitingOf g t b x
+    → (waitingOf g t b x .answer
     ≡ pick (inRange (withDefaults g))
     (pick (lengthsOk (withDefaults g) x)
     (pick (numbersOk (withDefaults g) t (x .rows) (x .buffers))
-    (pick (ltb b (banksOf (withDefaults g))) (told done (countOf (x .buffers .heads) b)) (told badAddress 0))
-    (told badState 0))
-    (told badLength 0))
-    (told badSetup 0)
+    (pick (ltb b (banksOf (withDefaults g))) done badAddress)
+    badState)
+    badLength)
+    badSetup)
+    × (waitingOf g t b x .count ≡ pick (eqb (waitingOf g t b x .answer) done) (countOf (x .buffers .heads) b) 0)

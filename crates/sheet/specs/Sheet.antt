@@ -12,14 +12,13 @@ use Rattle.port.specs.declared.Operation.{Operation}
 use Rattle.port.specs.declared.Operation.the-variants.{Idle}
 use Rattle.port.specs.declared.Delivery.{Delivery}
 use Rattle.port.specs.declared.Delivery.the-variants.{None, Word}
-use Rattle.model.specs.Promises.{ledgerAt}
-use Rattle.model.specs.Examples.{zeros, heard, read, write, memories}
+use Rattle.model.specs.Examples.{heard, read, write, memories, counts}
 
 pub data Question : Type 0 where
   place : Setup → (address : ℕ) → Question
   check : Setup → Question
   run : Setup → List Operation → Question
-  entries : Setup → List Operation → Question
+  waiting : Setup → List Operation → (cycles : List ℕ) → Question
   memory : Setup → List Operation → (cycles : List ℕ) → Question
 
 pub data Outcome : Type 0 where
@@ -27,7 +26,7 @@ pub data Outcome : Type 0 where
   accepted : (delta c : ℕ) → Outcome
   refused : (answer : ℕ) → Outcome
   replied : List (ℕ × Delivery) → Outcome
-  placed : (entries : ℕ) → Outcome
+  told : (counts : List ℕ) → Outcome
   held : (words : List ℕ) → Outcome
 
 -- an accepted setup is shown by its delay and its C, once the defaults are in
@@ -38,12 +37,12 @@ setupOutcome Refused = refused (answerOf Refused)
 abbrev pub cellOutcome : Setup → Cell → Outcome
 cellOutcome s x = cell-bank-row (x .0) (bankOf (mapOf s) x) (rowOf (mapOf s) x)
 
--- a run over memory of zeros: its answers and deliveries; the entries placed at bank 0; the memory word at cell 0 after each of these cycles
+-- a run over memory of zeros: its answers and deliveries; after each of these cycles, what a question of bank 0 tells, and the memory word at cell 0
 abbrev pub outcomeOf : Question → Outcome
 outcomeOf (place s x) = cellOutcome s (cellOf (mapOf s) (record { 0 = x }))
 outcomeOf (check s) = setupOutcome (checkedOf s)
 outcomeOf (run s ops) = replied (heard s ops)
-outcomeOf (entries s ops) = placed (ledgerAt s (zeros s) ops .placed 0)
+outcomeOf (waiting s ops cycles) = told (counts s ops 0 cycles)
 outcomeOf (memory s ops cycles) = held (memories s ops 0 cycles)
 
 ------------------------------------------------------------------------
@@ -80,11 +79,11 @@ sheet =
     ∷ (check (plain 4 2 1 1 0 0 2 0) gives refused 1)
     -- P5
     ∷ (run (plain 1 0 2 1 0 0 1 0) (read 0 ∷ read 0 ∷ read 0 ∷ []) gives replied ((0, None) ∷ (5, None) ∷ (0, Word 0) ∷ []))
-    -- P6
-    ∷ (entries (merging 1 0 1 1 1 3 1 0) (read 0 ∷ Idle ∷ read 0 ∷ []) gives placed 1)
-    ∷ (entries (merging 1 0 1 1 1 3 1 0) (read 0 ∷ Idle ∷ Idle ∷ read 0 ∷ []) gives placed 2)
+    -- P6: each entry waits in the cycle that places it, and is served in the next; the read at 2 places none, the read at 3 a second
+    ∷ (waiting (merging 1 0 1 1 1 3 1 0) (read 0 ∷ Idle ∷ read 0 ∷ []) (0 ∷ 1 ∷ 2 ∷ []) gives told (1 ∷ 0 ∷ 0 ∷ []))
+    ∷ (waiting (merging 1 0 1 1 1 3 1 0) (read 0 ∷ Idle ∷ Idle ∷ read 0 ∷ []) (0 ∷ 1 ∷ 2 ∷ 3 ∷ []) gives told (1 ∷ 0 ∷ 0 ∷ 1 ∷ []))
     -- P7: the memory holds 6 after cycle 4 and never 5
-    ∷ (memory (merging 1 0 1 1 1 2 1 0) (write 0 5 ∷ write 0 6 ∷ Idle ∷ Idle ∷ Idle ∷ []) (1 ∷ 2 ∷ 3 ∷ 4 ∷ 5 ∷ []) gives held (0 ∷ 0 ∷ 0 ∷ 0 ∷ 6 ∷ []))
+    ∷ (memory (merging 1 0 1 1 1 2 1 0) (write 0 5 ∷ write 0 6 ∷ Idle ∷ Idle ∷ Idle ∷ []) (0 ∷ 1 ∷ 2 ∷ 3 ∷ 4 ∷ []) gives held (0 ∷ 0 ∷ 0 ∷ 0 ∷ 6 ∷ []))
     -- P8
     ∷ (run (merging 2 1 2 1 2 2 1 0) (write 0 1 ∷ write 2 2 ∷ Idle ∷ Idle ∷ Idle ∷ Idle ∷ []) gives
     replied ((0, None) ∷ (0, None) ∷ (0, None) ∷ (6, None) ∷ (7, None) ∷ (7, None) ∷ []))

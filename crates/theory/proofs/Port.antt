@@ -3,12 +3,11 @@
 -- For every legal setup, in both modes, over any words and any bank rule. The machine by position is that of Concrete.antt, the one by cycle number that of Machine.antt:
 --   same-reply      answer (0 taken, 5 dropped, 6 stops, 7 was stopped) and delivery of the next call are the same
 --   same-state      one is on exactly where the other is; going or stopped, each buffer holds as many entries
---   turn-position   of a going machine: turn and position are the number of operations passed, modulo m and C
 --   owes            what it delivers is owed to the operation taken delay cycles ago
 use mathlib.Core.Path.{_≡_, refl, _∙_}
 use mathlib.Core.Bool.{Bool, cond}
 use mathlib.Core.List.{List, [], _∷_, _++_}
-use Prim.Native.Nat.{ℕ, zero, suc, _-_, _%_, _<_}
+use Prim.Native.Nat.{ℕ, zero, suc, _-_, _<_}
 use native.Mathlib.Numerals.{add-one}
 use native.Mathlib.Omega.{arith}
 use lib.ListN.{length, length-append}
@@ -17,7 +16,7 @@ use Rattle.theory.proofs.Operations.{Op, nil, owed, ideal}
 use Rattle.theory.proofs.Machine.{St, Run, shape, cycle, reply, gives, run, did}
 use Rattle.theory.proofs.Machine as M
 use Rattle.theory.proofs.Calls.{run-after, offered, offered-before, offered-last}
-use Rattle.theory.proofs.Concrete.{Config, Legal, setup, CSt, CRun, on, off, cycleC, replyC, runC, reachedC}
+use Rattle.theory.proofs.Concrete.{Config, Legal, setup, CRun, on, off, cycleC, replyC, runC, reachedC}
 use Rattle.theory.proofs.Runs.{any, run-good, delivery}
 use Rattle.theory.proofs.Sim.{same-length}
 use Rattle.theory.proofs.Final.{SimRun, ticks, sim-run, sim-reply}
@@ -93,14 +92,6 @@ module _ {W : Type 0} (mode : Bool) (k : Config) (K : ℕ) (mem : ℕ → W) whe
         go (off c) (M.off s) i = i
         go (on c) (M.off s) i = i
         go (off c) (M.on s) i = i
-
-    pub turn-position : (ops : List (Op W)) (c : CSt W) → reachedC mode k K mem ops ≡ on c
-        → (c .turn ≡ length ops % k .m) × (c .pos ≡ length ops % suc (k .rest))
-    turn-position ops c e = go (byCycle ops) (rw e at (reached-sim ops))
-      where
-        go : (r : Run W) → SimRun W k (length ops) (on c) r → (c .turn ≡ length ops % k .m) × (c .pos ≡ length ops % suc (k .rest))
-        go (M.on s) i = (i .turns, i .places)
-        go (M.off s) i = absurd i
 
     --------------------------------------------------------------------
     -- Deliveries
