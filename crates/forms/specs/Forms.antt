@@ -2,8 +2,9 @@
 use Prim.Native.Nat.{ℕ}
 use mathlib.Core.Bool.{Bool}
 use lib.Dec.{leb, eqb}
-use Rattle.answers.specs.Answers.{done, badSetup, badRecord}
+use Rattle.answers.specs.Answers.{done}
 use Rattle.choice.specs.Choice.{pick}
+use Rattle.setup.specs.Setup.{answerOf, setupOr}
 use Rattle.setup.specs.declared.Setup.{Setup}
 use Rattle.setup.specs.declared.Checked as setup
 use Rattle.port.specs.declared.Operation as port
@@ -17,7 +18,8 @@ use Rattle.model.specs.declared.Cycled as cycling
 use Rattle.model.specs.declared.Started as starting
 use Rattle.records.specs.declared.OperationRecord.{OperationRecord}
 use Rattle.setuprecord.specs.declared.SetupRecord.{SetupRecord}
-use Rattle.records.specs.Records.{idleRecordKind, readRecordKind, writeRecordKind, operationFrom}
+use Rattle.records.specs.Records.{idleRecordKind, readRecordKind, writeRecordKind, operationFrom, operationAnswer, operationOr}
+use Rattle.setuprecord.specs.SetupRecord.{recordAnswer, recordedOr}
 use Rattle.forms.specs.declared.Checked.{Checked}
 use Rattle.forms.specs.declared.Lent.{Lent}
 use Rattle.forms.specs.declared.State.{State}
@@ -37,8 +39,7 @@ abbrev pub noSetup : Setup
 noSetup = record { mode = 0; a = 0; s = 0; m = 0; k = 0; delta = 0; c = 0; u = 0; v = 0 }
 
 abbrev pub checkedOut : setup.Checked → Checked
-checkedOut (setup.Checked.Good s) = record { answer = done; setup = s }
-checkedOut setup.Checked.Refused = record { answer = badSetup; setup = noSetup }
+checkedOut r = record { answer = answerOf r; setup = setupOr noSetup r }
 
 -- how many numbers each lent room has
 abbrev pub lentOut : Lengths → Lent
@@ -47,7 +48,7 @@ lentOut due =
 
 -- a refused setup has no lengths
 abbrev pub noLengths : Lent
-noLengths = record { answer = badSetup; memory = 0; rows = 0; entries = 0; heads = 0 }
+noLengths = record { answer = answerOf setup.Checked.Refused; memory = 0; rows = 0; entries = 0; heads = 0 }
 
 ------------------------------------------------------------------------
 -- The state: the stop mark is a number, 0 or 1
@@ -125,12 +126,10 @@ askedOf t op = askedIn (operationIn op) t
 ------------------------------------------------------------------------
 -- What a record holds
 
--- the setup as written, a default given as 0 still 0
+-- the setup as written
 abbrev pub setupRead : SetupRecord → Checked
-setupRead (SetupRecord.Good s) = checkedOut (setup.Checked.Good s)
-setupRead SetupRecord.Refused = checkedOut setup.Checked.Refused
+setupRead r = record { answer = recordAnswer r; setup = recordedOr noSetup r }
 
 -- a bad record is handed out as idle
 abbrev pub operationRead : OperationRecord → Recorded
-operationRead (OperationRecord.Good op) = record { answer = done; operation = operationOut op }
-operationRead OperationRecord.Bad = record { answer = badRecord; operation = operationOut Idle }
+operationRead r = record { answer = operationAnswer r; operation = operationOut (operationOr Idle r) }

@@ -1,9 +1,9 @@
 -- What the calls that C makes do.
 use Prim.Native.Nat.{ℕ}
 use mathlib.Core.List.{List}
-use Rattle.answers.specs.Answers.{badSetup, badLength, badState, badRecord}
+use Rattle.answers.specs.Answers.{badLength, badState}
 use Rattle.choice.specs.Choice.{pick}
-use Rattle.setup.specs.Setup.{checkedOf}
+use Rattle.setup.specs.Setup.{checkedOf, answerOf}
 use Rattle.setup.specs.declared.Setup.{Setup}
 use Rattle.setup.specs.declared.Checked as setup
 use Rattle.model.specs.declared.Cycled as cycling
@@ -12,7 +12,7 @@ use Rattle.model.specs.Lent as room
 use Rattle.model.specs.Range.{lengthsOf, lengthsOk}
 use Rattle.model.specs.Calls.{freshOf, cycleOf, waitingOf}
 use Rattle.records.specs.declared.OperationRecord.{OperationRecord}
-use Rattle.records.specs.Records.{operationWritten}
+use Rattle.records.specs.Records.{operationWritten, operationAnswer}
 use Rattle.forms.specs.declared.Asked.{Asked}
 use Rattle.forms.specs.declared.Lent.{Lent}
 use Rattle.forms.specs.declared.State.{State}
@@ -43,14 +43,14 @@ startOut s t x = startWith t (freshOf s (stateIn t) x)
 
 -- a mark out of range is answer 3, which comes after 1 and 2
 unfoldable pub badMark : setup.Checked → room.Lent → ℕ
-badMark setup.Checked.Refused x = badSetup
+badMark setup.Checked.Refused x = answerOf setup.Checked.Refused
 badMark (setup.Checked.Good s) x = pick (lengthsOk s x) badState badLength
 
 abbrev pub cycledWith : cycling.Cycled × room.Lent → Cycled × room.Lent
 cycledWith r = (cycledOut (r .0), r .1)
 
 unfoldable pub cycleIn : Asked → Setup → State → room.Lent → Cycled × room.Lent
-cycleIn Asked.NoOperation s t x = (refusedBy badRecord t, x)
+cycleIn Asked.NoOperation s t x = (refusedBy (operationAnswer OperationRecord.Bad) t, x)
 cycleIn Asked.BadMark s t x = (refusedBy (badMark (checkedOf s) x) t, x)
 cycleIn (Asked.Cycle k op) s t x = cycledWith (cycleOf s k op x)
 
@@ -70,7 +70,7 @@ waitingOut s t b x =
 
 abbrev pub writtenIn : OperationRecord → List ℕ → ℕ × List ℕ
 writtenIn (OperationRecord.Good op) room = operationWritten op room
-writtenIn OperationRecord.Bad room = (badRecord, room)
+writtenIn OperationRecord.Bad room = (operationAnswer OperationRecord.Bad, room)
 
 abbrev pub operationWrittenOut : Operation → List ℕ → ℕ × List ℕ
 operationWrittenOut op room = writtenIn (operationIn op) room

@@ -4,9 +4,9 @@ use mathlib.Core.Bool.{Bool, true, false}
 use mathlib.Core.List.{List}
 use lib.Dec.{ltb, eqb}
 use lib.ListN.{replicate}
-use Rattle.answers.specs.Answers.{done, badSetup, badLength, badState, badAddress, stopped}
+use Rattle.answers.specs.Answers.{done, badLength, badState, badAddress, stopped}
 use Rattle.choice.specs.Choice.{pick}
-use Rattle.setup.specs.Setup.{checkedOf, wordsOf, banksOf}
+use Rattle.setup.specs.Setup.{checkedOf, answerOf, wordsOf, banksOf}
 use Rattle.setup.specs.declared.Setup.{Setup}
 use Rattle.setup.specs.declared.Checked.{Checked}
 use Rattle.setup.specs.declared.Checked.the-variants.{Good, Refused}
@@ -28,7 +28,7 @@ use Rattle.model.specs.Cycle.{passed}
 
 -- 1, then 2: a setup in range, and exact lengths
 unfoldable pub exactIn : Checked → Lent → Standing
-exactIn Refused x = Refusal badSetup
+exactIn Refused x = Refusal (answerOf Refused)
 exactIn (Good s) x = pick (lengthsOk s x) (Sound s) (Refusal badLength)
 
 abbrev pub exactOf : Setup → Lent → Standing

@@ -4,7 +4,7 @@ use mathlib.Core.Bool.{Bool, _&&_}
 use mathlib.Core.List.{List, _∷_, _++_}
 use lib.Dec.{eqb}
 use lib.ListN.{length}
-use Rattle.answers.specs.Answers.{done, badLength}
+use Rattle.answers.specs.Answers.{done, badLength, badRecord}
 use Rattle.choice.specs.Choice.{pick}
 use Rattle.port.specs.declared.Operation.{Operation}
 use Rattle.port.specs.declared.Operation.the-variants.{Idle, Read, Write}
@@ -48,6 +48,15 @@ operationOf s =
     pick (eqb (length s) operationSize && operationZeros s)
     (operationFrom (byteAt s 0) (numberAt 4 s 4) (numberAt 4 s 8))
     OperationRecord.Bad
+
+-- the document's number for each case, and its value: the operation, or none
+abbrev pub operationAnswer : OperationRecord → ℕ
+operationAnswer (OperationRecord.Good op) = done
+operationAnswer OperationRecord.Bad = badRecord
+
+abbrev pub operationOr : Operation → OperationRecord → Operation
+operationOr none (OperationRecord.Good op) = op
+operationOr none OperationRecord.Bad = none
 
 -- kind, three zero bytes, address (4), word (4)
 abbrev pub operationLayout : (kind address word : ℕ) → List ℕ

@@ -5,9 +5,9 @@ use mathlib.Core.Bool.{Bool, true, false, _&&_}
 use mathlib.Core.List.{List, [], _∷_, _++_}
 use lib.Dec.{leb}
 use lib.ListN.{length, take, drop}
-use Rattle.answers.specs.Answers.{badSetup, roomTooSmall, badRecord}
+use Rattle.answers.specs.Answers.{roomTooSmall}
 use Rattle.choice.specs.Choice.{pick}
-use Rattle.setup.specs.Setup.{Ranges, checkedOf, banksOf}
+use Rattle.setup.specs.Setup.{Ranges, checkedOf, answerOf, banksOf}
 use Rattle.setup.specs.declared.Setup.{Setup}
 use Rattle.setup.specs.declared.Checked.{Checked}
 use Rattle.port.specs.declared.Delivery.{Delivery}
@@ -16,8 +16,8 @@ use Rattle.model.specs.Lent.{Lent}
 use Rattle.model.specs.Range.{lengthsFor, lengthsOf, zeroed}
 use Rattle.model.specs.Calls.{freshState}
 use Rattle.model.specs.Runs.{Machine, after, replyOf}
-use Rattle.records.specs.Records.{operationSize, operationOf}
-use Rattle.setuprecord.specs.SetupRecord.{setupOf}
+use Rattle.records.specs.Records.{operationSize, operationOf, operationAnswer}
+use Rattle.setuprecord.specs.SetupRecord.{setupOf, recordAnswer}
 use Rattle.records.specs.declared.OperationRecord.{OperationRecord}
 use Rattle.setuprecord.specs.declared.SetupRecord.{SetupRecord}
 use Rattle.decimal.specs.Decimal.{decimal, stored}
@@ -43,12 +43,12 @@ roomFor s = leb (s .a) mostA && leb (s .c) mostC && leb (banksOf s * s .k) mostP
 
 -- one too large prints `setup 8`: it is compared after the defaults
 abbrev pub openingIn : Checked → Opening
-openingIn Checked.Refused = Opening.Refused badSetup
+openingIn Checked.Refused = Opening.Refused (answerOf Checked.Refused)
 openingIn (Checked.Good s) = pick (roomFor s) (Opening.Open s) (Opening.Refused roomTooSmall)
 
 -- a setup that is missing, of the wrong length or refused by 1 prints `setup 1`
 unfoldable pub openingFor : SetupRecord → Opening
-openingFor SetupRecord.Refused = Opening.Refused badSetup
+openingFor SetupRecord.Refused = Opening.Refused (recordAnswer SetupRecord.Refused)
 openingFor (SetupRecord.Good s) = openingIn (checkedOf s)
 
 -- of the bytes of the file `setup`, none where it is missing
@@ -79,7 +79,7 @@ withLine x answer d on w =
 
 -- a bad record prints its line with 9 and ends the run: the controller is not asked, also after a stop
 unfoldable pub withRecord : Setup → OperationRecord → Listed → Listed
-withRecord s OperationRecord.Bad x = withLine x badRecord Delivery.None false (x .machine)
+withRecord s OperationRecord.Bad x = withLine x (operationAnswer OperationRecord.Bad) Delivery.None false (x .machine)
 withRecord s (OperationRecord.Good op) x =
     withLine x (replyOf s op (x .machine) .answer) (replyOf s op (x .machine) .delivery) true (after s op (x .machine))
 

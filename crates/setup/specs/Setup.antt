@@ -88,10 +88,14 @@ inRange s = sizesOk s && restOk s
 abbrev pub checkedOf : Setup → Checked
 checkedOf s = pick (inRange (withDefaults s)) (Good (withDefaults s)) Refused
 
--- the document's number for each case
+-- the document's number for each case, and its value: the setup with its defaults in, or none
 abbrev pub answerOf : Checked → ℕ
 answerOf (Good s) = done
 answerOf Refused = badSetup
+
+abbrev pub setupOr : Setup → Checked → Setup
+setupOr none (Good s) = s
+setupOr none Refused = none
 
 ------------------------------------------------------------------------
 -- What the layers above know of a checked setup

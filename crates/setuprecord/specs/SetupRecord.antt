@@ -45,6 +45,15 @@ setupOf s =
     (SetupRecord.Good (setupFields s))
     SetupRecord.Refused
 
+-- the document's number for each case, and its value: the setup as written, a default given as 0 still 0, or none
+abbrev pub recordAnswer : SetupRecord → ℕ
+recordAnswer (SetupRecord.Good s) = done
+recordAnswer SetupRecord.Refused = badSetup
+
+abbrev pub recordedOr : Setup → SetupRecord → Setup
+recordedOr none (SetupRecord.Good s) = s
+recordedOr none SetupRecord.Refused = none
+
 -- a default given as 0 is written as 0
 unfoldable pub setupBytes : Setup → List ℕ
 setupBytes s =
