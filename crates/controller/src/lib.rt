@@ -89,7 +89,8 @@ pub fn cycle(
     }
 }
 
-// How many entries wait at one bank. Not by `standing`: called here alone, that is a part of `cycle`, and its setup is not copied.
+// How many entries wait at one bank. Not by `standing`: as long as `cycle` alone calls that, it becomes a part of `cycle`, and no
+// setup is copied there.
 pub fn waiting(
     setup: Setup,
     t: State,
