@@ -4,10 +4,11 @@ use mathlib.Core.Bool.{_&&_}
 use mathlib.Core.Logic.{_⊎_}
 use mathlib.Core.Path.{_≡_}
 use lib.Dec.{leb, ltb, eqb}
-use Rattle.answers.specs.Answers.{done, badSetup, badLength, badState, badAddress, stopped, badRecord}
+use Rattle.answers.specs.Answers.{done, badLength, badState, badAddress, stopped}
 use Rattle.choice.specs.Choice.{pick}
 use Rattle.setup.specs.declared.Setup.{Setup}
-use Rattle.setup.specs.Setup.{withDefaults, inRange, banksOf}
+use Rattle.setup.specs.declared.Checked.the-variants.{Refused}
+use Rattle.setup.specs.Setup.{withDefaults, inRange, answerOf, banksOf}
 use Rattle.port.specs.declared.Operation as port
 use Rattle.model.specs.declared.State as kept
 use Rattle.model.specs.Lent as room
@@ -18,6 +19,7 @@ use Rattle.model.specs.Calls.{freshState, freshLent, freshOf, cycleOf, waitingO
 use Rattle.model.specs.Refusals.{within}
 use Rattle.model.specs.Promises.{Passes}
 use Rattle.records.specs.declared.OperationRecord.{OperationRecord}
+use Rattle.records.specs.Records.{operationAnswer}
 use Rattle.forms.specs.declared.State.{State}
 use Rattle.forms.specs.declared.Started.{Started}
 use Rattle.forms.specs.declared.Operation.{Operation}
@@ -53,11 +55,11 @@ StartsC = (s : Setup) (t : State) (x : room.Lent)
     → startOut s t x
     ≡ pick (inRange (withDefaults s))
     (pick (lengthsOk (withDefaults s) x) (startedBy done (stateOut freshState), freshLent (withDefaults s) x) (startedBy badLength t, x))
-    (startedBy badSetup t, x)
+    (startedBy (answerOf Refused) t, x)
 
 -- a cycle: 9, 1, 2, 3, 7, 4 in this order, a mark above 1 being a 3, and else it is the controller's
 abbrev pub inOrder : OperationRecord → Setup → State → room.Lent → Cycled × room.Lent
-inOrder OperationRecord.Bad s t x = (refusedBy badRecord t, x)
+inOrder OperationRecord.Bad s t x = (refusedBy (operationAnswer OperationRecord.Bad) t, x)
 inOrder (OperationRecord.Good op) s t x =
     pick (inRange (withDefaults s))
     (pick (lengthsOk (withDefaults s) x)
@@ -66,7 +68,7 @@ inOrder (OperationRecord.Good op) s t x =
     (pick (within (withDefaults s) op) (cycledWith (passed (withDefaults s) (stateIn t) op x)) (refusedBy badAddress t, x)))
     (refusedBy badState t, x))
     (refusedBy badLength t, x))
-    (refusedBy badSetup t, x)
+    (refusedBy (answerOf Refused) t, x)
 
 abbrev pub CyclesC : Type 0
 CyclesC = (s : Setup) (t : State) (op : Operation) (x : room.Lent) → cycleOut s t op x ≡ inOrder (operationIn op) s t x
@@ -81,7 +83,7 @@ AsksC = (s : Setup) (t : State) (b : ℕ) (x : room.Lent)
     (pick (ltb b (banksOf (withDefaults s))) done badAddress)
     badState)
     badLength)
-    badSetup)
+    (answerOf Refused))
     × (waitingOut s t b x .count ≡ pick (eqb (waitingOut s t b x .answer) done) (countOf (x .buffers .heads) b) 0)
 
 -- an answer that passes no cycle comes with delivery none, word and stamp 0 and the state as it was, and every room stays

@@ -5,10 +5,11 @@ use mathlib.Core.Logic.{_↔_}
 use mathlib.Core.Bool.{Bool, true}
 use mathlib.Core.List.{List}
 use lib.Dec.{ltb, eqb}
-use Rattle.answers.specs.Answers.{done, badSetup, badLength, badState, badAddress, stopped}
+use Rattle.answers.specs.Answers.{done, badLength, badState, badAddress, stopped}
 use Rattle.choice.specs.Choice.{pick}
-use Rattle.setup.specs.Setup.{withDefaults, inRange, wordsOf, banksOf}
+use Rattle.setup.specs.Setup.{withDefaults, inRange, answerOf, wordsOf, banksOf}
 use Rattle.setup.specs.declared.Setup.{Setup}
+use Rattle.setup.specs.declared.Checked.the-variants.{Refused}
 use Rattle.port.specs.declared.Operation.{Operation}
 use Rattle.port.specs.declared.Operation.the-variants.{Idle, Read, Write}
 use Rattle.model.specs.declared.State.{State}
@@ -58,7 +59,7 @@ StartsInOrder =
     → freshOf g t x
     ≡ pick (inRange (withDefaults g))
     (pick (lengthsOk (withDefaults g) x) (started done freshState, freshLent (withDefaults g) x) (started badLength t, x))
-    (started badSetup t, x)
+    (started (answerOf Refused) t, x)
 
 -- a cycle: 1, 2, 3, 7, 4 in this order, and else it passes
 abbrev pub RefusesInOrder : Type 0
@@ -72,7 +73,7 @@ RefusesInOrder =
     (pick (within (withDefaults g) op) (passed (withDefaults g) t op x) (refused badAddress t x)))
     (refused badState t x))
     (refused badLength t x))
-    (refused badSetup t x)
+    (refused (answerOf Refused) t x)
 
 -- a question: 1 to 4; else it tells the buffer's count, and a refused one 0
 abbrev pub TellsInOrder : Type 0
@@ -85,5 +86,5 @@ TellsInOrder =
     (pick (ltb b (banksOf (withDefaults g))) done badAddress)
     badState)
     badLength)
-    badSetup)
+    (answerOf Refused))
     × (waitingOf g t b x .count ≡ pick (eqb (waitingOf g t b x .answer) done) (countOf (x .buffers .heads) b) 0)

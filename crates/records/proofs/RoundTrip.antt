@@ -1,12 +1,14 @@
 -- Reading and writing an operation turn each other round: the statements of specs/RoundTrip.antt. Assumes nothing.
 use Prim.Native.Nat.{ℕ}
 use mathlib.Core.Path.{_≡_, refl, sym, ap, _∙_}
+use mathlib.Core.Logic.{_⊎_, inl, inr}
 use mathlib.Core.Bool.{Bool, true, false, _&&_}
 use mathlib.Core.List.{List, [], _∷_, _++_}
 use native.Mathlib.Omega.{arith}
 use lib.Dec.{eqb, lit<}
 use lib.ListN.{length, drop-of-length-le}
 use borrow.Author.Tests.{eqb-true}
+use Rattle.answers.specs.Answers.{done, badRecord}
 use Rattle.choice.specs.Choice.{pick}
 use Rattle.setup.proofs.Ranges.{and-l, and-r}
 use Rattle.port.specs.declared.Operation.{Operation}
@@ -14,8 +16,8 @@ use Rattle.port.specs.declared.Operation.the-variants.{Idle, Read, Write}
 use Rattle.bytes.specs.Bytes.{byteAt, Bytes, numberAt, bytesOf}
 use Rattle.bytes.proofs.Numbers.{number-bytes, bytes-number, bytes-byte}
 use Rattle.records.specs.declared.OperationRecord.{OperationRecord}
-use Rattle.records.specs.Records.{operationSize, idleRecordKind, readRecordKind, writeRecordKind, operationZeros, goodIf, operationFrom, operationOf, operationLayout, operationBytes}
-use Rattle.records.specs.RoundTrip.{FitsWord, OperationReadAsWritten, OperationWrittenAsRead}
+use Rattle.records.specs.Records.{operationSize, idleRecordKind, readRecordKind, writeRecordKind, operationZeros, goodIf, operationFrom, operationOf, operationAnswer, operationOr, operationLayout, operationBytes}
+use Rattle.records.specs.RoundTrip.{FitsWord, Fits, OperationReadAsWritten, OperationWrittenAsRead, OperationAnswered}
 
 ------------------------------------------------------------------------
 -- Reading what was written gives it back
@@ -27,11 +29,14 @@ layout-read kind address word ha hw =
     let s : List ℕ = operationLayout kind address word in
     rw (number-bytes 4 address s _ 4 ha refl, number-bytes 4 word s _ 8 hw refl)
 
-pub operation-read-as-written : OperationReadAsWritten
+pub operation-good : (op : Operation) → Fits op → operationOf (operationBytes op) ≡ OperationRecord.Good op
 unfolding operationBytes operationFrom
-operation-read-as-written Idle h = layout-read idleRecordKind 0 0 (lit< tt) (lit< tt)
-operation-read-as-written (Read x) h = layout-read readRecordKind (x .0) 0 h (lit< tt)
-operation-read-as-written (Write x word) h = layout-read writeRecordKind (x .0) word (h .0) (h .1)
+operation-good Idle h = layout-read idleRecordKind 0 0 (lit< tt) (lit< tt)
+operation-good (Read x) h = layout-read readRecordKind (x .0) 0 h (lit< tt)
+operation-good (Write x word) h = layout-read writeRecordKind (x .0) word (h .0) (h .1)
+
+pub operation-read-as-written : OperationReadAsWritten
+operation-read-as-written op none h = (ap operationAnswer (operation-good op h), ap (operationOr none) (operation-good op h))
 
 ------------------------------------------------------------------------
 -- Writing what was read gives the same bytes
@@ -89,12 +94,26 @@ layout-bytes s b h z₁ z₂ z₃ = one-by-one
           drop-of-length-le s {i = operationSize} (omega arith),
         )
 
-pub operation-written-as-read : OperationWrittenAsRead
+good-written : (s : List ℕ) (op : Operation) → Bytes s → operationOf s ≡ OperationRecord.Good op → operationBytes op ≡ s
 unfolding operationOf
-operation-written-as-read s op b h =
+good-written s op b h =
     let o : OperationRecord = operationFrom (byteAt s 0) (numberAt 4 s 4) (numberAt 4 s 8) in
     let p = good-chosen (eqb (length s) operationSize && operationZeros s) o op h in
     let z₁ : byteAt s 1 ≡ 0 = search (and-l, and-r, eqb-true) in
     let z₂ : byteAt s 2 ≡ 0 = search (and-l, and-r, eqb-true) in
     let z₃ : byteAt s 3 ≡ 0 = search (and-l, and-r, eqb-true) in
     sym (layout-back _ _ _ op (p .1)) ∙ layout-bytes s b (search (and-l, and-r, eqb-true)) z₁ z₂ z₃
+
+pub operation-written-as-read : OperationWrittenAsRead
+operation-written-as-read s none b = go (operationOf s) refl
+  where
+    go : (r : OperationRecord) → operationOf s ≡ r → operationAnswer r ≡ done → operationBytes (operationOr none r) ≡ s
+    go (OperationRecord.Good op) e h = good-written s op b e
+    go OperationRecord.Bad e h = absurd (omega (arith, h))
+
+answered : (r : OperationRecord) → (operationAnswer r ≡ done) ⊎ (operationAnswer r ≡ badRecord)
+answered (OperationRecord.Good op) = inl refl
+answered OperationRecord.Bad = inr refl
+
+pub operation-answered : OperationAnswered
+operation-answered s = answered (operationOf s)

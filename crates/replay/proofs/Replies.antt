@@ -14,7 +14,7 @@ use Rattle.bytes.specs.Bytes.{bytesOf}
 use Rattle.records.specs.Records.{operationSize, operationOf, operationBytes}
 use Rattle.records.specs.RoundTrip.{Fits}
 use Rattle.records.specs.declared.OperationRecord.{OperationRecord}
-use Rattle.records.proofs.RoundTrip.{operation-read-as-written}
+use Rattle.records.proofs.RoundTrip.{operation-good}
 use Rattle.listing.specs.Listing.{lineOf}
 use Rattle.replay.specs.Replay.{Listed, withRecord, recordsIn, listedBelow, listed}
 use Rattle.replay.specs.Parts.{apart, behind}
@@ -37,7 +37,7 @@ one-reply s op n w f =
     let long : length b ≤ operationSize = omega (arith, bytes-long op) in
     ap (λ (k : ℕ). listedBelow s b (recordsIn k) x) (bytes-long op)
     ∙ ap (λ (r : List ℕ). withRecord s (operationOf r) x) (take-all operationSize b long)
-    ∙ ap (λ (r : OperationRecord). withRecord s r x) (operation-read-as-written op f)
+    ∙ ap (λ (r : OperationRecord). withRecord s r x) (operation-good op f)
 
 pub as-replies : AsReplies
 unfolding bytesFor linesFor replies afterAll listedBelow

@@ -9,10 +9,11 @@ use borrow.Author.Tests.{leb-true, eqb-true}
 use Rattle.setup.specs.declared.Setup.{Setup}
 use Rattle.setup.specs.declared.Checked.{Checked}
 use Rattle.setup.specs.declared.Checked.the-variants.{Good, Refused}
+use Rattle.answers.specs.Answers.{done, badSetup}
 use Rattle.choice.specs.Choice.{pick}
 use Rattle.map.specs.declared.Map.{Map}
 use Rattle.map.specs.Map as map
-use Rattle.setup.specs.Setup.{sizesOk, restOk, inRange, Sizes, Ranges, withDefaults, checkedOf, mapOf, banksOf}
+use Rattle.setup.specs.Setup.{sizesOk, restOk, inRange, answerOf, setupOr, ChecksExactly, Sizes, Ranges, withDefaults, checkedOf, mapOf, banksOf}
 
 pub and-l : (x y : Bool) → x && y ≡ true → x ≡ true
 and-l true y h = refl
@@ -42,6 +43,15 @@ module _ (s f : Setup) (t u : Bool) where
 
 pub checked-too-large : (s : Setup) (t : Bool) → t ≡ sizesOk s → t ≡ false → Refused ≡ checkedOf s
 checked-too-large s t e h = cc
+
+-- d is the setup with its defaults in, b what the test of the ranges answers
+checks-by : (d none : Setup) (b : Bool)
+    → (answerOf (pick b (Good d) Refused) ≡ pick b done badSetup) × (setupOr none (pick b (Good d) Refused) ≡ pick b d none)
+checks-by d none true = (refl, refl)
+checks-by d none false = (refl, refl)
+
+pub checks-exactly : ChecksExactly
+checks-exactly s none = checks-by (withDefaults s) none (inRange (withDefaults s))
 
 -- What a caller knows of the setup that `checked` answered.
 ranges : (s : Setup) → inRange s ≡ true → Ranges s

@@ -1,6 +1,7 @@
 -- The document's "Numbers of a configuration". A setup's numbers are ℕ here, so nothing wraps and no default needs a bound.
 use Prim.Native.Nat.{ℕ, _*_, _%_, _≤_}
 use mathlib.Core.Bool.{Bool, _&&_}
+use mathlib.Core.Path.{_≡_}
 use lib.Dec.{leb, ltb, eqb}
 use Rattle.answers.specs.Answers.{done, badSetup}
 use Rattle.choice.specs.Choice.{pick}
@@ -96,6 +97,13 @@ answerOf Refused = badSetup
 abbrev pub setupOr : Setup → Checked → Setup
 setupOr none (Good s) = s
 setupOr none Refused = none
+
+-- 1 exactly when a number is out of range, and else the setup with its defaults in
+abbrev pub ChecksExactly : Type 0
+ChecksExactly =
+    (s none : Setup)
+    → (answerOf (checkedOf s) ≡ pick (inRange (withDefaults s)) done badSetup)
+    × (setupOr none (checkedOf s) ≡ pick (inRange (withDefaults s)) (withDefaults s) none)
 
 ------------------------------------------------------------------------
 -- What the layers above know of a checked setup

@@ -1,6 +1,7 @@
 -- Reading and writing a setup turn each other round: the statements of specs/RoundTrip.antt. Assumes nothing.
 use Prim.Native.Nat.{ℕ, _^_, _≤_, _<_}
 use mathlib.Core.Path.{_≡_, refl, ap, _∙_}
+use mathlib.Core.Logic.{_⊎_, inl, inr}
 use mathlib.Core.Bool.{Bool, true, false, _&&_}
 use mathlib.Core.List.{List, [], _∷_, _++_}
 use native.Mathlib.Nat.{lt-of-lt-of-le}
@@ -9,6 +10,7 @@ use lib.Dec.{eqb}
 use lib.ListN.{length, drop-of-length-le}
 use lib.Pow.{pow-mono}
 use borrow.Author.Tests.{eqb-true}
+use Rattle.answers.specs.Answers.{done, badSetup}
 use Rattle.choice.specs.Choice.{pick}
 use Rattle.setup.specs.Setup.{withDefaults, checkedOf, Ranges}
 use Rattle.setup.specs.declared.Setup.{Setup}
@@ -16,8 +18,8 @@ use Rattle.setup.proofs.Ranges.{and-l, and-r, good-ranges}
 use Rattle.bytes.specs.Bytes.{base, byteAt, Bytes, numberAt, bytesOf}
 use Rattle.bytes.proofs.Numbers.{number-bytes, bytes-number, bytes-byte}
 use Rattle.setuprecord.specs.declared.SetupRecord.{SetupRecord}
-use Rattle.setuprecord.specs.SetupRecord.{setupSize, setupFields, setupZeros, allowed, setupOf, setupBytes}
-use Rattle.setuprecord.specs.RoundTrip.{SetupReadAsWritten, SetupWrittenAsRead}
+use Rattle.setuprecord.specs.SetupRecord.{setupSize, setupFields, setupZeros, allowed, setupOf, recordAnswer, recordedOr, setupBytes}
+use Rattle.setuprecord.specs.RoundTrip.{SetupReadAsWritten, SetupWrittenAsRead, SetupAnswered}
 use Rattle.setuprecord.proofs.Choice.{first}
 
 ------------------------------------------------------------------------
@@ -52,9 +54,12 @@ fields-read s r =
       number-bytes 4 (s .v) bytes _ 16 (below-words (s .v) (s .a) (r .map .v-below) ha) refl,
     )
 
-pub setup-read-as-written : SetupReadAsWritten
+setup-good : (s : Setup) → allowed s ≡ true → setupOf (setupBytes s) ≡ SetupRecord.Good s
 unfolding setupOf setupBytes bytesOf
-setup-read-as-written s h = rw (fields-read s (allowed-ranges s h), h)
+setup-good s h = rw (fields-read s (allowed-ranges s h), h)
+
+pub setup-read-as-written : SetupReadAsWritten
+setup-read-as-written s none h = (ap recordAnswer (setup-good s h), ap (recordedOr none) (setup-good s h))
 
 ------------------------------------------------------------------------
 -- Writing what was read gives the same bytes
@@ -87,12 +92,26 @@ fields-bytes s b h z₀ z₁ = one-by-one
           drop-of-length-le s {i = setupSize} (omega arith),
         )
 
-pub setup-written-as-read : SetupWrittenAsRead
+good-written : (bytes : List ℕ) (s : Setup) → Bytes bytes → setupOf bytes ≡ SetupRecord.Good s → setupBytes s ≡ bytes
 unfolding setupOf
-setup-written-as-read bytes s b h =
+good-written bytes s b h =
     let f : Setup = setupFields bytes in
     let p = first (eqb (length bytes) setupSize && setupZeros bytes && allowed f) (SetupRecord.Good f) SetupRecord.Refused (SetupRecord.Good s) (refused-not-good s) h in
     let same : s ≡ f = cc (p .1) in
     let z₀ : byteAt bytes 10 ≡ 0 = search (and-l, and-r, eqb-true) in
     let z₁ : byteAt bytes 11 ≡ 0 = search (and-l, and-r, eqb-true) in
     ap setupBytes same ∙ fields-bytes bytes b (search (and-l, and-r, eqb-true)) z₀ z₁
+
+pub setup-written-as-read : SetupWrittenAsRead
+setup-written-as-read bytes none b = go (setupOf bytes) refl
+  where
+    go : (r : SetupRecord) → setupOf bytes ≡ r → recordAnswer r ≡ done → setupBytes (recordedOr none r) ≡ bytes
+    go (SetupRecord.Good s) e h = good-written bytes s b e
+    go SetupRecord.Refused e h = absurd (omega (arith, h))
+
+answered : (r : SetupRecord) → (recordAnswer r ≡ done) ⊎ (recordAnswer r ≡ badSetup)
+answered (SetupRecord.Good s) = inl refl
+answered SetupRecord.Refused = inr refl
+
+pub setup-answered : SetupAnswered
+setup-answered bytes = answered (setupOf bytes)
