@@ -48,7 +48,7 @@ pub fn fresh_start(
     }
 }
 
-// A cycle once 1, 2 and 3 are past: 7, then 4, and else it passes.
+// A cycle once 1, 2 and 3 are past: 7, then 4, and else it is not refused.
 fn step(
     s: Setup,
     t: State,

@@ -19,7 +19,7 @@ use Rattle.model.specs.Range.{lengthsOk, numbersOk}
 use Rattle.model.specs.Cycle.{passed}
 use Rattle.model.specs.Calls.{started, freshState, freshLent, freshOf, cycleOf, waitingOf, refused}
 use Rattle.model.specs.Refusals.{within}
-use Rattle.model.specs.Promises.{Passes}
+use Rattle.model.specs.Promises.{NotRefused}
 use Rattle.model.proofs.Signed.{refuses-whole}
 use Rattle.model.proofs.SignedRefusals.{starts-in-order, refuses-in-order, tells-in-order}
 use Rattle.records.specs.declared.OperationRecord.{OperationRecord}
@@ -169,11 +169,11 @@ asks-c s t b x = go (markOk t)
         (mark-told (countOf (x .buffers .heads) b) (inRange (withDefaults s)) (lengthsOk (withDefaults s) x))
 
 Whole : State → room.Lent → Cycled × room.Lent → Type 0
-Whole t x w = Passes (w .0 .reply .answer) ⊎ (w ≡ (refusedBy (w .0 .reply .answer) t, x))
+Whole t x w = NotRefused (w .0 .reply .answer) ⊎ (w ≡ (refusedBy (w .0 .reply .answer) t, x))
 
 -- w is what the controller returned and left
 with-whole : (t : State) (x : room.Lent) (w : cycling.Cycled × room.Lent) → markOk t ≡ true
-    → Passes (w .0 .reply .answer) ⊎ (w ≡ refused (w .0 .reply .answer) (stateIn t) x) → Whole t x (cycledWith w)
+    → NotRefused (w .0 .reply .answer) ⊎ (w ≡ refused (w .0 .reply .answer) (stateIn t) x) → Whole t x (cycledWith w)
 unfolding Whole
 with-whole t x w h (inl p) = inl p
 with-whole t x w h (inr e) =

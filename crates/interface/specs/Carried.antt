@@ -17,7 +17,7 @@ use Rattle.model.specs.Range.{lengthsOk, numbersOk}
 use Rattle.model.specs.Cycle.{passed}
 use Rattle.model.specs.Calls.{freshState, freshLent, freshOf, cycleOf, waitingOf}
 use Rattle.model.specs.Refusals.{within}
-use Rattle.model.specs.Promises.{Passes}
+use Rattle.model.specs.Promises.{NotRefused}
 use Rattle.records.specs.declared.OperationRecord.{OperationRecord}
 use Rattle.records.specs.Records.{operationAnswer}
 use Rattle.forms.specs.declared.State.{State}
@@ -89,5 +89,5 @@ AsksC = (s : Setup) (t : State) (b : ℕ) (x : room.Lent)
 -- an answer that passes no cycle comes with delivery none, word and stamp 0 and the state as it was, and every room stays
 abbrev pub RefusesC : Type 0
 RefusesC = (s : Setup) (t : State) (op : Operation) (x : room.Lent)
-    → Passes (cycleOut s t op x .0 .reply .answer)
+    → NotRefused (cycleOut s t op x .0 .reply .answer)
     ⊎ (cycleOut s t op x ≡ (refusedBy (cycleOut s t op x .0 .reply .answer) t, x))

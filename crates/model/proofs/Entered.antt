@@ -20,7 +20,7 @@ use Rattle.port.specs.declared.Reply.{Reply}
 use Rattle.model.specs.Calls.{addressOk}
 use Rattle.model.specs.Sram.{due}
 use Rattle.model.specs.Ledger.{Ledger, ledger, waits, serviced, Need, nowhere, at, retires, arrives, full, given, noted, replied, ended, entered}
-use Rattle.model.specs.Promises.{booked, passing, Passes}
+use Rattle.model.specs.Promises.{booked, passing, NotRefused}
 
 ------------------------------------------------------------------------
 -- The calls that pass no cycle, and the one that does
@@ -104,7 +104,7 @@ module _ (s : Setup) (op : Operation) (d : Delivery) (stamp : ℕ) (l : Ledger) 
   way-stamps e (drops p q) = refl
   way-stamps e (halts p) = refl
 
-  pub way-passes : (e : Reply × Ledger) → Way e → Passes (e .0 .answer)
+  pub way-passes : (e : Reply × Ledger) → Way e → NotRefused (e .0 .answer)
   way-passes e (takes p q) = inl refl
   way-passes e (drops p q) = inr (inl refl)
   way-passes e (halts p) = inr (inr refl)

@@ -227,24 +227,24 @@ module _ (g : Setup) (w₀ : Machine) where
           passed-stamp s (w .0) op (w .1) ∙ k .stamps ∙ sym (tells .1)
 
       -- the stamp counts on with past, but for a stop
-      stamp-by : (n : ℕ) → P.Passes n → stateBy s (w .0) n .stamp ≡ length (P.passing n op (l .past)) % 2 ^ 32
+      stamp-by : (n : ℕ) → P.NotRefused n → stateBy s (w .0) n .stamp ≡ length (P.passing n op (l .past)) % 2 ^ 32
       stamp-by n (inl p) = rw p (rw (k .stamps) (one-more (length (l .past))))
       stamp-by n (inr (inl p)) = rw p (rw (k .stamps) (one-more (length (l .past))))
       stamp-by n (inr (inr p)) = rw p (k .stamps)
 
       -- turn and position count on with past, but for a stop
-      turn-by : (n : ℕ) → P.Passes n → stateBy s (w .0) n .turn ≡ length (P.passing n op (l .past)) % s .m
+      turn-by : (n : ℕ) → P.NotRefused n → stateBy s (w .0) n .turn ≡ length (P.passing n op (l .past)) % s .m
       turn-by n (inl p) = rw p (one-round (s .m) (w .0 .turn) (length (l .past)) (ranges .sizes .m-least) (k .turns))
       turn-by n (inr (inl p)) = rw p (one-round (s .m) (w .0 .turn) (length (l .past)) (ranges .sizes .m-least) (k .turns))
       turn-by n (inr (inr p)) = rw p (k .turns)
 
-      place-by : (n : ℕ) → P.Passes n → stateBy s (w .0) n .position ≡ length (P.passing n op (l .past)) % s .c
+      place-by : (n : ℕ) → P.NotRefused n → stateBy s (w .0) n .position ≡ length (P.passing n op (l .past)) % s .c
       place-by n (inl p) = rw p (one-round (s .c) (w .0 .position) (length (l .past)) (c-least-one s ranges) (k .places))
       place-by n (inr (inl p)) = rw p (one-round (s .c) (w .0 .position) (length (l .past)) (c-least-one s ranges) (k .places))
       place-by n (inr (inr p)) = rw p (k .places)
 
       -- what the state counts, once it counts on with past
-      counted : (f : State → ℕ) (m : ℕ) → ((n : ℕ) → P.Passes n → f (stateBy s (w .0) n) ≡ length (P.passing n op (l .past)) % m)
+      counted : (f : State → ℕ) (m : ℕ) → ((n : ℕ) → P.NotRefused n → f (stateBy s (w .0) n) ≡ length (P.passing n op (l .past)) % m)
           → f (r .0 .state) ≡ length (e .1 .past) % m
       counted f m counts =
           ap f (passed-state s (w .0) op (w .1))

@@ -31,7 +31,7 @@ use Rattle.model.specs.Calls.{addressOk, standingOf, offeredOf, refused,
 use Rattle.model.specs.Runs.{Machine, replyOf, replies, after, afterAll, fresh}
 use Rattle.model.specs.Sram.{sram, due}
 use Rattle.model.specs.Ledger.{Ledger, freshLedger, waits, serviced, retires, arrives, full, ended, entered}
-use Rattle.model.specs.Promises.{Starts, reached, startWord, replyAt, promised, booked, ledgerAt, passing, historyFrom, history, Passes, Emulates, ReadLeaves, NothingElse, NeverUnready, StopsExactly, DropsExactly, NeverBadState, TellsWaiting, RefusesWhole, StampsCycles, TurnsApart}
+use Rattle.model.specs.Promises.{Starts, reached, startWord, replyAt, promised, booked, ledgerAt, passing, historyFrom, history, NotRefused, Emulates, ReadLeaves, NothingElse, NeverUnready, StopsExactly, DropsExactly, NeverBadState, TellsWaiting, RefusesWhole, StampsCycles, TurnsApart, StaysStopped}
 use Rattle.choice.proofs.Tests.{pick-map}
 use Rattle.theory.proofs.Concrete.{Legal, CSt, CRun, on, off}
 use Rattle.theory.proofs.Machine.{Run}
@@ -44,7 +44,7 @@ use Rattle.model.proofs.Config.{configOf, legal}
 use Rattle.model.proofs.Shown.{shown}
 use Rattle.model.proofs.Shows.{waiting-shown}
 use Rattle.model.proofs.Books.{BooksRun, books-waits}
-use Rattle.model.proofs.Entered.{entered-by, entered-past, retiredTo, Way, takes, drops, halts, way, way-delivers, way-stamps, way-passes, booked-append}
+use Rattle.model.proofs.Entered.{entered-by, entered-halted, entered-past, retiredTo, Way, takes, drops, halts, way, way-delivers, way-stamps, way-passes, booked-append}
 use Rattle.model.proofs.Follows.{Follows, follows-fresh, follows-reply, follows-after}
 
 ------------------------------------------------------------------------
@@ -109,7 +109,7 @@ module _ (s : Setup) (start : Address → ℕ) (op : Operation) (l : Ledger) whe
 
   -- a call that reaches its cycle delivers what is due, with the cycle's stamp; any other none
   Tells : Reply → Type 0
-  Tells r = (Passes (r .answer) × ((r .delivery ≡ d) × (r .stamp ≡ length (l .past) % 2 ^ 32))) ⊎ (((r .answer ≡ stopped) ⊎ (r .answer ≡ badAddress)) × (r .delivery ≡ None))
+  Tells r = (NotRefused (r .answer) × ((r .delivery ≡ d) × (r .stamp ≡ length (l .past) % 2 ^ 32))) ⊎ (((r .answer ≡ stopped) ⊎ (r .answer ≡ badAddress)) × (r .delivery ≡ None))
 
   entered-tells : Tells (entered s start op l .0)
   unfolding Tells
@@ -132,6 +132,17 @@ module _ (s : Setup) (start : Address → ℕ) (op : Operation) (l : Ledger) whe
   stops-by e (drops p q) = (λ z. absurd (omega arith), λ r. absurd (true≢false (sym r ∙ p)))
   stops-by e (halts p) = (λ z. p, λ r. refl)
 
+  -- a stop marks the ledger
+  stops-halted : entered s start op l .0 .answer ≡ stopping → entered s start op l .1 .halted ≡ true
+  stops-halted =
+      entered-by s start op l (λ e. e .0 .answer ≡ stopping → e .1 .halted ≡ true)
+      (λ h z. h) (λ h k z. absurd (omega arith)) (λ h k. by-way _ y)
+    where
+      by-way : (e : Reply × Ledger) → Way s op d (length (l .past) % 2 ^ 32) l₁ e → e .0 .answer ≡ stopping → e .1 .halted ≡ true
+      by-way e (takes p q) z = absurd (omega arith)
+      by-way e (drops p q) z = absurd (omega arith)
+      by-way e (halts p) z = refl
+
   drops-by : (e : Reply × Ledger) → Way s op d (length (l .past) % 2 ^ 32) l₁ e
       → (e .0 .answer ≡ dropped) ↔ ((full s (retires s l₁) l₁ ≡ false) × (full s (arrives s op (retiredTo s l₁)) (retiredTo s l₁) ≡ true))
   drops-by e (takes p q) = (λ z. absurd (omega arith), λ r. absurd (true≢false (sym (r .1) ∙ q)))
@@ -151,6 +162,25 @@ stops-exactly g w ops op h =
     (exactly (withDefaults g) (startWord g w) op (ledgerAt g w ops) stopping (λ z. omega arith) (λ z. omega arith) _
     (stops-by (withDefaults g) (startWord g w) op (ledgerAt g w ops)))
 
+-- nothing is noted on a ledger that is marked
+halted-stays : (s : Setup) (start : Address → ℕ) (ops : List Operation) (l : Ledger) → l .halted ≡ true → booked s start ops l ≡ l
+unfolding booked
+halted-stays s start [] l h = refl
+halted-stays s start (op ∷ ops) l h =
+    ap (λ (e : Reply × Ledger). booked s start ops (e .1)) (entered-halted s start op l h) ∙ halted-stays s start ops l h
+
+pub stays-stopped : StaysStopped
+unfolding booked
+stays-stopped g w ops more op later h e =
+    let s : Setup = withDefaults g in
+    let words : Address → ℕ = startWord g w in
+    let l : Ledger = entered s words op (ledgerAt g w ops) .1 in
+    let marked : l .halted ≡ true = stops-halted s words op (ledgerAt g w ops) (ap (λ (r : Reply). r .answer) (sym (reply-run g w h ops op)) ∙ e) in
+    let there : ledgerAt g w (ops ++ op ∷ more) ≡ l = booked-append s words ops (op ∷ more) freshLedger ∙ halted-stays s words more l marked in
+    ap (λ (r : Reply). r .answer) (reply-run g w h (ops ++ op ∷ more) later)
+    ∙ ap (λ (x : Ledger). entered s words later x .0 .answer) there
+    ∙ ap (λ (x : Reply × Ledger). x .0 .answer) (entered-halted s words later l marked)
+
 pub drops-exactly : DropsExactly
 drops-exactly g w ops op h =
     let x =
@@ -166,7 +196,7 @@ unfolding Tells
 nothing-else g w ops op h = go (tells-run g w ops op h)
   where
     go : Tells (withDefaults g) (startWord g w) op (ledgerAt g w ops) (replyAt g w ops op)
-        → (Passes (replyAt g w ops op .answer) × (replyAt g w ops op .delivery ≡ due (startWord g w) (drop (withDefaults g .delta - 1) (history g w ops))))
+        → (NotRefused (replyAt g w ops op .answer) × (replyAt g w ops op .delivery ≡ due (startWord g w) (drop (withDefaults g .delta - 1) (history g w ops))))
         ⊎ (((replyAt g w ops op .answer ≡ stopped) ⊎ (replyAt g w ops op .answer ≡ badAddress)) × (replyAt g w ops op .delivery ≡ None))
     go (inl p) = inl (p .0, rw (history-run g w h ops) (p .1 .0))
     go (inr p) = inr p
@@ -189,7 +219,7 @@ pub stamps-cycles : StampsCycles
 unfolding Tells
 stamps-cycles g w ops op h k = go (tells-run g w ops op h) k
   where
-    go : Tells (withDefaults g) (startWord g w) op (ledgerAt g w ops) (replyAt g w ops op) → Passes (replyAt g w ops op .answer)
+    go : Tells (withDefaults g) (startWord g w) op (ledgerAt g w ops) (replyAt g w ops op) → NotRefused (replyAt g w ops op .answer)
         → replyAt g w ops op .stamp ≡ length (history g w ops) % 2 ^ 32
     go (inl p) q = rw (history-run g w h ops) (p .1 .1)
     go (inr (inl p, _)) (inl q) = absurd (omega arith)
@@ -204,7 +234,7 @@ unfolding Tells
 never-bad-state g w ops op h = go (tells-run g w ops op h)
   where
     go : Tells (withDefaults g) (startWord g w) op (ledgerAt g w ops) (replyAt g w ops op)
-        → Passes (replyAt g w ops op .answer) ⊎ ((replyAt g w ops op .answer ≡ badAddress) ⊎ (replyAt g w ops op .answer ≡ stopped))
+        → NotRefused (replyAt g w ops op .answer) ⊎ ((replyAt g w ops op .answer ≡ badAddress) ⊎ (replyAt g w ops op .answer ≡ stopped))
     go (inl p) = inl (p .0)
     go (inr (inl p, _)) = inr (inr p)
     go (inr (inr p, _)) = inr (inl p)
@@ -272,7 +302,7 @@ read-leaves g w ops more a op h taken far k = go (tells-run g w (ops ++ Read a �
         omega arith
 
     go : Tells (withDefaults g) (startWord g w) op (ledgerAt g w (ops ++ Read a ∷ more)) (replyAt g w (ops ++ Read a ∷ more) op)
-        → Passes (replyAt g w (ops ++ Read a ∷ more) op .answer)
+        → NotRefused (replyAt g w (ops ++ Read a ∷ more) op .answer)
         → replyAt g w (ops ++ Read a ∷ more) op .delivery ≡ Word (sram (startWord g w) (history g w ops) a)
     go (inl p) q =
         p .1 .0
@@ -346,12 +376,12 @@ tells-waiting g w ops b h = (answered, tallied)
         ∙ counts (ltb b (banksOf s)) refl
 
 refuses-in : (c : Standing) (t : State) (op : Operation) (x : Lent)
-    → Passes (cycleIn c t op x .0 .reply .answer) ⊎ (cycleIn c t op x ≡ refused (cycleIn c t op x .0 .reply .answer) t x)
+    → NotRefused (cycleIn c t op x .0 .reply .answer) ⊎ (cycleIn c t op x ≡ refused (cycleIn c t op x .0 .reply .answer) t x)
 unfolding cycleIn stepOf
 refuses-in (Refusal n) t op x = inr refl
 refuses-in (Sound s) t op x = go (eqb (offeredOf s t op) done)
   where
-    go : (b : Bool) → Passes (pick b (passed s t op x) (refused (offeredOf s t op) t x) .0 .reply .answer)
+    go : (b : Bool) → NotRefused (pick b (passed s t op x) (refused (offeredOf s t op) t x) .0 .reply .answer)
         ⊎ (pick b (passed s t op x) (refused (offeredOf s t op) t x) ≡ refused (pick b (passed s t op x) (refused (offeredOf s t op) t x) .0 .reply .answer) t x)
     go true = inl (passed-answer s t op x)
     go false = inr refl
@@ -362,4 +392,4 @@ refuses-whole g t op x = refuses-in (standingOf g t x) t op x
 pub turns-apart : TurnsApart
 turns-apart g w ops h =
     let k : Follows g w (reached g w ops) (ledgerAt g w ops) = follows-run g w h ops in
-    rw (history-run g w h ops) (k .turns, k .places)
+    rw (history-run g w h ops) (k .stamps, k .turns, k .places)

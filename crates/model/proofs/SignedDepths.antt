@@ -19,7 +19,7 @@ use Rattle.model.specs.Calls.{addressOk}
 use Rattle.model.specs.Runs.{Machine}
 use Rattle.model.specs.Sram.{sram}
 use Rattle.model.specs.Ledger.{Ledger, freshLedger, serviced, entered}
-use Rattle.model.specs.Promises.{startWord, replyAt, promised, booked, ledgerAt, history, Passes}
+use Rattle.model.specs.Promises.{startWord, replyAt, promised, booked, ledgerAt, history, NotRefused}
 use Rattle.model.specs.Depths.{Alike, repliesTo, DeeperTakes, WritesKept, SameWord, MergingKeepsWrites, NoneLost, AgreeUntil}
 use Rattle.model.proofs.Entered.{entered-passes, entered-reaches, way, way-passes}
 use Rattle.model.proofs.Signed.{emulates, reply-run, history-run, read-leaves}
@@ -27,7 +27,7 @@ use Rattle.model.proofs.Deeper.{deepened, deeper-deepened, same-ok}
 use Rattle.model.proofs.Depths as depths
 
 -- an answer of a cycle that is reached is neither 7 nor 4
-passes-on : (n : ℕ) → Passes n → (n ≡ stopped → ⊥) × (n ≡ badAddress → ⊥)
+passes-on : (n : ℕ) → NotRefused n → (n ≡ stopped → ⊥) × (n ≡ badAddress → ⊥)
 passes-on n (inl p) = (λ e. absurd (omega arith), λ e. absurd (omega arith))
 passes-on n (inr (inl p)) = (λ e. absurd (omega arith), λ e. absurd (omega arith))
 passes-on n (inr (inr p)) = (λ e. absurd (omega arith), λ e. absurd (omega arith))
@@ -91,7 +91,7 @@ module _ (g₁ g₂ : Setup) (w₁ w₂ : Machine) (k : Alike g₁ g₂ w₁ w�
   -- The same word
 
   -- a call that reaches its cycle
-  reaches : (ops : List Operation) (op : Operation) → Passes (replyAt g₁ w₁ ops op .answer)
+  reaches : (ops : List Operation) (op : Operation) → NotRefused (replyAt g₁ w₁ ops op .answer)
       → (ledgerAt g₁ w₁ ops .halted ≡ false) × (addressOk s op ≡ true)
   reaches ops op p =
       let e : replyAt g₁ w₁ ops op .answer ≡ entered s start op (ledgerAt g₁ w₁ ops) .0 .answer = ap (λ (r : Reply). r .answer) (shallow ops op) in
@@ -99,13 +99,13 @@ module _ (g₁ g₂ : Setup) (w₁ w₂ : Machine) (k : Alike g₁ g₂ w₁ w�
       entered-reaches s start op (ledgerAt g₁ w₁ ops) (λ z. f .0 (e ∙ z)) (λ z. f .1 (e ∙ z))
 
   -- reaches it in the deeper too
-  reaches-deep : (ops : List Operation) (op : Operation) → Passes (replyAt g₁ w₁ ops op .answer)
-      → Passes (replyAt g₂ w₂ ops op .answer)
+  reaches-deep : (ops : List Operation) (op : Operation) → NotRefused (replyAt g₁ w₁ ops op .answer)
+      → NotRefused (replyAt g₂ w₂ ops op .answer)
   reaches-deep ops op p =
       let r = reaches ops op p in
       let l : Ledger = booked (deepened s d) start ops freshLedger in
-      subst (λ (r : Reply). Passes (r .answer)) (sym (deep ops op))
-      (subst (λ (e : Reply × Ledger). Passes (e .0 .answer))
+      subst (λ (r : Reply). NotRefused (r .answer)) (sym (deep ops op))
+      (subst (λ (e : Reply × Ledger). NotRefused (e .0 .answer))
       (sym (entered-passes (deepened s d) start op l (depths.deeper-goes s d start ops (r .0)) (same-ok s d op ∙ r .1)))
       (way-passes (deepened s d) op _ _ (serviced (deepened s d) l) _ (way (deepened s d) op _ _ (serviced (deepened s d) l))))
 

@@ -36,15 +36,15 @@ module _ (s : Setup) (t : State) where
   going-stamp p d memory rows (false, q) = refl
 
   -- a cycle that nothing refuses answers 0, 5 or 6
-  finished-answer : (d : Delivery) (memory : List ℕ) (w : Arrived) → P.Passes (withMemory memory (finished s t d w) .0 .reply .answer)
+  finished-answer : (d : Delivery) (memory : List ℕ) (w : Arrived) → P.NotRefused (withMemory memory (finished s t d w) .0 .reply .answer)
   finished-answer d memory (true, w) = inl refl
   finished-answer d memory (false, w) = inr (inl refl)
 
-  going-answer : (p : Plan) (d : Delivery) (memory rows : List ℕ) (w : Bool × Buffers) → P.Passes (withMemory memory (going s t p d rows w) .0 .reply .answer)
+  going-answer : (p : Plan) (d : Delivery) (memory rows : List ℕ) (w : Bool × Buffers) → P.NotRefused (withMemory memory (going s t p d rows w) .0 .reply .answer)
   going-answer p d memory rows (true, q) = finished-answer d memory (arrived s (t .position) p rows q)
   going-answer p d memory rows (false, q) = inr (inr refl)
 
-  pub passed-answer : (op : Operation) (x : Lent) → P.Passes (passed s t op x .0 .reply .answer)
+  pub passed-answer : (op : Operation) (x : Lent) → P.NotRefused (passed s t op x .0 .reply .answer)
   unfolding passed afterService
   passed-answer op x =
       let y : Lent = served s (t .turn) x in

@@ -14,7 +14,7 @@ use Rattle.port.specs.declared.Delivery.the-variants.{Word}
 use Rattle.port.specs.declared.Reply.{Reply}
 use Rattle.model.specs.Runs.{Machine, replies, fresh}
 use Rattle.model.specs.Sram.{wrote, sram}
-use Rattle.model.specs.Promises.{Starts, startWord, replyAt, history, Passes}
+use Rattle.model.specs.Promises.{Starts, startWord, replyAt, history, NotRefused}
 
 -- the same numbers but for K, and no fewer places
 pub record Deeper (s₁ s₂ : Setup) : Type 0 where
@@ -65,7 +65,7 @@ SameWord =
     → replyAt g₁ w₁ ops (Read a) .answer ≡ done
     → WritesKept a ops (repliesTo g₁ w₁ ops)
     → length (history g₁ w₁ (ops ++ Read a ∷ more)) ≡ length (history g₁ w₁ ops) + withDefaults g₁ .delta
-    → Passes (replyAt g₁ w₁ (ops ++ Read a ∷ more) op .answer)
+    → NotRefused (replyAt g₁ w₁ (ops ++ Read a ∷ more) op .answer)
     → (replyAt g₁ w₁ (ops ++ Read a ∷ more) op .delivery ≡ Word (sram (startWord g₁ w₁) (history g₁ w₁ ops) a))
     × (replyAt g₂ w₂ (ops ++ Read a ∷ more) op .delivery ≡ Word (sram (startWord g₁ w₁) (history g₁ w₁ ops) a))
     × (length (history g₂ w₂ ops) ≡ length (history g₁ w₁ ops))

@@ -76,8 +76,8 @@ abbrev pub history : Setup → Machine → List Operation → List Operation
 history g w ops = historyFrom g ops (fresh g w) []
 
 -- a call that reaches its cycle: it is not refused
-abbrev pub Passes : ℕ → Type 0
-Passes answer = (answer ≡ done) ⊎ ((answer ≡ dropped) ⊎ (answer ≡ stopping))
+abbrev pub NotRefused : ℕ → Type 0
+NotRefused answer = (answer ≡ done) ⊎ ((answer ≡ dropped) ⊎ (answer ≡ stopping))
 
 ------------------------------------------------------------------------
 -- What leaves
@@ -89,14 +89,14 @@ ReadLeaves =
     (g : Setup) (w : Machine) (ops more : List Operation) (a : Address) (op : Operation) → Starts g w
     → replyAt g w ops (Read a) .answer ≡ done
     → length (history g w (ops ++ Read a ∷ more)) ≡ length (history g w ops) + withDefaults g .delta
-    → Passes (replyAt g w (ops ++ Read a ∷ more) op .answer)
+    → NotRefused (replyAt g w (ops ++ Read a ∷ more) op .answer)
     → replyAt g w (ops ++ Read a ∷ more) op .delivery ≡ Word (sram (startWord g w) (history g w ops) a)
 
 -- nothing else is ever delivered: what is due for cycle t − Δ, and none where the call is refused, by 7 or 4
 abbrev pub NothingElse : Type 0
 NothingElse =
     (g : Setup) (w : Machine) (ops : List Operation) (op : Operation) → Starts g w
-    → (Passes (replyAt g w ops op .answer)
+    → (NotRefused (replyAt g w ops op .answer)
     × (replyAt g w ops op .delivery ≡ due (startWord g w) (drop (withDefaults g .delta - 1) (history g w ops))))
     ⊎ (((replyAt g w ops op .answer ≡ stopped) ⊎ (replyAt g w ops op .answer ≡ badAddress)) × (replyAt g w ops op .delivery ≡ None))
 
@@ -123,6 +123,13 @@ StopsExactly =
     × (addressOk (withDefaults g) op ≡ true)
     × (full (withDefaults g) (retires (withDefaults g) (retiringAt g w ops)) (retiringAt g w ops) ≡ true))
 
+-- and every later call answers 7
+abbrev pub StaysStopped : Type 0
+StaysStopped =
+    (g : Setup) (w : Machine) (ops more : List Operation) (op later : Operation) → Starts g w
+    → replyAt g w ops op .answer ≡ stopping
+    → replyAt g w (ops ++ op ∷ more) later .answer ≡ stopped
+
 -- an operation is dropped exactly when it needs a place in a full request buffer
 abbrev pub DropsExactly : Type 0
 DropsExactly =
@@ -140,7 +147,7 @@ DropsExactly =
 abbrev pub NeverBadState : Type 0
 NeverBadState =
     (g : Setup) (w : Machine) (ops : List Operation) (op : Operation) → Starts g w
-    → Passes (replyAt g w ops op .answer) ⊎ ((replyAt g w ops op .answer ≡ badAddress) ⊎ (replyAt g w ops op .answer ≡ stopped))
+    → NotRefused (replyAt g w ops op .answer) ⊎ ((replyAt g w ops op .answer ≡ badAddress) ⊎ (replyAt g w ops op .answer ≡ stopped))
 
 -- a question tells how many entries wait at one bank: those placed less those served since the fresh start;
 -- at a bank at or above B it answers 4 and tells 0. No question on a reached state gives 3
@@ -155,17 +162,18 @@ TellsWaiting =
 abbrev pub RefusesWhole : Type 0
 RefusesWhole =
     (g : Setup) (t : State) (op : Operation) (x : Lent)
-    → Passes (cycleOf g t op x .0 .reply .answer) ⊎ (cycleOf g t op x ≡ refused (cycleOf g t op x .0 .reply .answer) t x)
+    → NotRefused (cycleOf g t op x .0 .reply .answer) ⊎ (cycleOf g t op x ≡ refused (cycleOf g t op x .0 .reply .answer) t x)
 
 -- the stamp is the cycle number modulo 2^32
 abbrev pub StampsCycles : Type 0
 StampsCycles =
-    (g : Setup) (w : Machine) (ops : List Operation) (op : Operation) → Starts g w → Passes (replyAt g w ops op .answer)
+    (g : Setup) (w : Machine) (ops : List Operation) (op : Operation) → Starts g w → NotRefused (replyAt g w ops op .answer)
     → replyAt g w ops op .stamp ≡ length (history g w ops) % 2 ^ 32
 
--- turn and position are the cycle number's own, however long the run; a stop leaves those of the cycle that stopped
+-- the state's own stamp, turn and position are the cycle number's, however long the run; a stop leaves those of the cycle that stopped
 abbrev pub TurnsApart : Type 0
 TurnsApart =
     (g : Setup) (w : Machine) (ops : List Operation) → Starts g w
-    → (reached g w ops .0 .turn ≡ length (history g w ops) % withDefaults g .m)
+    → (reached g w ops .0 .stamp ≡ length (history g w ops) % 2 ^ 32)
+    × (reached g w ops .0 .turn ≡ length (history g w ops) % withDefaults g .m)
     × (reached g w ops .0 .position ≡ length (history g w ops) % withDefaults g .c)

@@ -61,7 +61,7 @@ StartsInOrder =
     (pick (lengthsOk (withDefaults g) x) (started done freshState, freshLent (withDefaults g) x) (started badLength t, x))
     (started (answerOf Refused) t, x)
 
--- a cycle: 1, 2, 3, 7, 4 in this order, and else it passes
+-- a cycle: 1, 2, 3, 7, 4 in this order, and else it is not refused
 abbrev pub RefusesInOrder : Type 0
 RefusesInOrder =
     (g : Setup) (t : State) (op : Operation) (x : Lent)

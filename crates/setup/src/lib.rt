@@ -1,4 +1,4 @@
-// A setup's nine numbers, their ranges, and the test that every exported call makes first.
+// A setup's nine numbers, their ranges, and the test of them.
 ghost use mathlib.Core.Path.{_≡_};
 ghost use Rattle.setup.specs.Setup.{mapOf, wordsOf, banksOf, leastDelta, orDefault, withDefaults, sizesOk, restOk, checkedOf, Sizes};
 use map::Map;

@@ -12,3 +12,4 @@ mod records;
 mod said;
 mod setups;
 mod text;
+mod witnesses;

@@ -25,28 +25,28 @@ enum Entry {
     Write(Cell, Word),
 }
 
-struct Machine {
-    configuration: Configuration,
-    cycle: usize,
+pub struct Machine {
+    pub configuration: Configuration,
+    pub cycle: usize,
     stopped: bool,
-    memory: Vec<Word>,
+    pub memory: Vec<Word>,
     rows: Vec<Row>,
     buffers: Vec<VecDeque<Entry>>,
 }
 
 impl Machine {
-    fn fresh_start(configuration: Configuration) -> Machine {
+    pub fn fresh_start(configuration: Configuration, memory: Vec<Word>) -> Machine {
         Machine {
             configuration,
             cycle: 0,
             stopped: false,
-            memory: vec![0; configuration.words() as usize],
+            memory,
             rows: vec![Row::Empty; configuration.c],
             buffers: vec![VecDeque::new(); configuration.banks()],
         }
     }
 
-    fn call(&mut self, operation: Operation) -> Reply {
+    pub fn call(&mut self, operation: Operation) -> Reply {
         let address = operation.address();
         if self.stopped {
             return reply(Answer::Stopped, None);
@@ -63,6 +63,14 @@ impl Machine {
         let taken = self.arrival(operation);
         self.cycle += 1;
         reply(if taken { Answer::Done } else { Answer::Dropped }, delivery)
+    }
+
+    /// How many entries wait at a bank.
+    pub fn question(&self, bank: usize) -> (Answer, usize) {
+        match self.buffers.get(bank) {
+            Some(buffer) => (Answer::Done, buffer.len()),
+            None => (Answer::BadAddress, 0),
+        }
     }
 
     fn service(&mut self) {
@@ -176,11 +184,16 @@ fn reply(answer: Answer, delivery: Option<Word>) -> Reply {
     Reply { answer, delivery }
 }
 
+/// Memory of zeros.
+pub fn zeros(configuration: &Configuration) -> Vec<Word> {
+    vec![0; configuration.words() as usize]
+}
+
 #[test]
 fn rows_and_buffers_reply_as_the_history_does() {
     for seed in 0..RUNS {
         let (configuration, operations) = generated(seed);
-        let mut machine = Machine::fresh_start(configuration);
+        let mut machine = Machine::fresh_start(configuration, zeros(&configuration));
         let mut port = Port::fresh_start(configuration);
         for (call, &operation) in operations.iter().enumerate() {
             assert_eq!(
@@ -188,8 +201,9 @@ fn rows_and_buffers_reply_as_the_history_does() {
                 machine.call(operation),
                 "seed {seed}, call {call}"
             );
-            for (bank, buffer) in machine.buffers.iter().enumerate() {
-                assert_eq!(port.waiting(bank), buffer.len(), "seed {seed}, call {call}");
+            for bank in 0..configuration.banks() {
+                let due = (Answer::Done, port.waiting(bank));
+                assert_eq!(machine.question(bank), due, "seed {seed}, call {call}");
             }
         }
     }
@@ -199,7 +213,7 @@ fn rows_and_buffers_reply_as_the_history_does() {
 fn the_memory_holds_what_the_history_says() {
     for seed in 0..RUNS {
         let (configuration, operations) = generated(seed);
-        let mut machine = Machine::fresh_start(configuration);
+        let mut machine = Machine::fresh_start(configuration, zeros(&configuration));
         let mut port = Port::fresh_start(configuration);
         for (call, &operation) in operations.iter().enumerate().take(100) {
             port.call(operation);
