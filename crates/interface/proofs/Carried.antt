@@ -3,6 +3,7 @@ use Prim.Native.Nat.{ℕ}
 use mathlib.Core.Bool.{Bool, true, false, _&&_}
 use mathlib.Core.Logic.{_⊎_, inl, inr}
 use mathlib.Core.Path.{_≡_, refl, sym, ap, subst, _∙_}
+use mathlib.Core.List.{List}
 use lib.Dec.{ltb, eqb}
 use Rattle.answers.specs.Answers.{done, badSetup, badLength, badState, badAddress, stopped}
 use Rattle.choice.specs.Choice.{pick}
@@ -27,10 +28,10 @@ use Rattle.forms.specs.declared.Asked.{Asked}
 use Rattle.forms.specs.declared.State.{State}
 use Rattle.forms.specs.declared.Cycled.{Cycled}
 use Rattle.forms.specs.declared.Told.{Told}
-use Rattle.forms.specs.Forms.{markOk, stateIn, stateOut, startedOut, operationIn, askedIn, refusedBy, toldOut}
+use Rattle.forms.specs.Forms.{noLengths, markOk, stateIn, stateOut, startedOut, operationIn, askedIn, refusedBy, toldOut}
 use Rattle.forms.proofs.Back.{mark-good, state-back, state-there, asked-back, refused-out}
-use Rattle.interface.specs.Interface.{startWith, cycledWith, badMark, cycleIn, waitingOut}
-use Rattle.interface.specs.Carried.{startedBy, SameStart, SameCycle, SameQuestion, StartsC, inOrder, CyclesC, AsksC, RefusesC}
+use Rattle.interface.specs.Interface.{lengthsIn, startWith, cycledWith, badMark, cycleIn, waitingOut, writtenIn}
+use Rattle.interface.specs.Carried.{startedBy, SameStart, SameCycle, SameQuestion, StartsC, inOrder, CyclesC, AsksC, RefusesC, LengthsC, lengthsFor, WritesC, writtenFor}
 
 ------------------------------------------------------------------------
 -- The calls
@@ -47,6 +48,20 @@ same-question s t b x =
 
 ------------------------------------------------------------------------
 -- Refusals
+
+lengths-by : (s : Setup) (g : Bool) → lengthsIn (pick g (setup.Checked.Good s) setup.Checked.Refused) ≡ pick g (lengthsFor s) noLengths
+lengths-by s true = refl
+lengths-by s false = refl
+
+pub lengths-c : LengthsC
+lengths-c s = lengths-by (withDefaults s) (inRange (withDefaults s))
+
+written-by : (r : OperationRecord) (room : List ℕ) → writtenIn r room ≡ writtenFor r room
+written-by (OperationRecord.Good op) room = refl
+written-by OperationRecord.Bad room = refl
+
+pub writes-c : WritesC
+writes-c op room = written-by (operationIn op) room
 
 -- g and l say whether the setup is in range and the lengths are exact
 start-same : (s : Setup) (t : kept.State) (x : room.Lent) (g l : Bool) (w : starting.Started × room.Lent)

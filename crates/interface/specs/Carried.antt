@@ -1,14 +1,15 @@
 -- What carries over to C: the numbers lose nothing, and each refusal comes exactly when and in the order that is written, changing nothing. proofs/Carried.antt proves it.
-use Prim.Native.Nat.{ℕ}
+use Prim.Native.Nat.{ℕ, _*_}
 use mathlib.Core.Bool.{_&&_}
 use mathlib.Core.Logic.{_⊎_}
 use mathlib.Core.Path.{_≡_}
+use mathlib.Core.List.{List}
 use lib.Dec.{leb, ltb, eqb}
 use Rattle.answers.specs.Answers.{done, badLength, badState, badAddress, stopped}
 use Rattle.choice.specs.Choice.{pick}
 use Rattle.setup.specs.declared.Setup.{Setup}
 use Rattle.setup.specs.declared.Checked.the-variants.{Refused}
-use Rattle.setup.specs.Setup.{withDefaults, inRange, answerOf, banksOf}
+use Rattle.setup.specs.Setup.{withDefaults, inRange, checkedOf, answerOf, wordsOf, banksOf}
 use Rattle.port.specs.declared.Operation as port
 use Rattle.model.specs.declared.State as kept
 use Rattle.model.specs.Lent as room
@@ -19,13 +20,14 @@ use Rattle.model.specs.Calls.{freshState, freshLent, freshOf, cycleOf, waitingO
 use Rattle.model.specs.Refusals.{within}
 use Rattle.model.specs.Promises.{NotRefused}
 use Rattle.records.specs.declared.OperationRecord.{OperationRecord}
-use Rattle.records.specs.Records.{operationAnswer}
+use Rattle.records.specs.Records.{operationWritten, operationAnswer}
+use Rattle.forms.specs.declared.Lent.{Lent}
 use Rattle.forms.specs.declared.State.{State}
 use Rattle.forms.specs.declared.Started.{Started}
 use Rattle.forms.specs.declared.Operation.{Operation}
 use Rattle.forms.specs.declared.Cycled.{Cycled}
-use Rattle.forms.specs.Forms.{stateIn, stateOut, operationIn, operationOut, refusedBy, toldOut}
-use Rattle.interface.specs.Interface.{startOut, cycledWith, cycleOut, waitingOut}
+use Rattle.forms.specs.Forms.{noLengths, stateIn, stateOut, operationIn, operationOut, refusedBy, toldOut}
+use Rattle.interface.specs.Interface.{lengthsIn, startOut, cycledWith, cycleOut, waitingOut, operationWrittenOut}
 
 ------------------------------------------------------------------------
 -- C hands on the state that it got: each call then is the controller's, so demands 2 and 3 hold of what C sees
@@ -48,6 +50,21 @@ SameQuestion = (s : Setup) (t : kept.State) (b : ℕ) (x : room.Lent)
 
 ------------------------------------------------------------------------
 -- Whatever C hands in
+
+-- the lengths of the rooms: N words, four numbers a row and an entry, two a bank; of a setup out of range none
+abbrev pub lengthsFor : Setup → Lent
+lengthsFor s = record { answer = done; memory = wordsOf s; rows = 4 * s .c; entries = 4 * (banksOf s * s .k); heads = 2 * banksOf s }
+
+abbrev pub LengthsC : Type 0
+LengthsC = (s : Setup) → lengthsIn (checkedOf s) ≡ pick (inRange (withDefaults s)) (lengthsFor (withDefaults s)) noLengths
+
+-- writing an operation: one that is none is refused by 9, and the room stays
+abbrev pub writtenFor : OperationRecord → List ℕ → ℕ × List ℕ
+writtenFor (OperationRecord.Good op) room = operationWritten op room
+writtenFor OperationRecord.Bad room = (operationAnswer OperationRecord.Bad, room)
+
+abbrev pub WritesC : Type 0
+WritesC = (op : Operation) (room : List ℕ) → operationWrittenOut op room ≡ writtenFor (operationIn op) room
 
 -- a fresh start: 1, then 2, the state then coming back as it was and every room staying; and else it is the controller's
 abbrev pub StartsC : Type 0

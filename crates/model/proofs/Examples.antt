@@ -3,10 +3,10 @@ use mathlib.Core.Path.{refl}
 use Rattle.map.specs.Map.{bankOf, cellOf}
 use Rattle.model.specs.Cycle.{filledBelow, carried, servedBank, servedBelow, scan, placed, retired, arrived, afterService, passed}
 use Rattle.model.specs.Range.{rowsOk, entriesOk, buffersOk}
-use Rattle.model.specs.Calls.{exactIn, standingIn, offeredOf, freshIn, stepOf, cycleIn}
+use Rattle.model.specs.Calls.{exactIn, standingIn, offeredOf, freshIn, stepOf, cycleIn, tellOf, waitingIn}
 use Rattle.model.specs.Runs.{replies, afterAll}
 use Rattle.model.specs.Promises.{historyFrom}
-use Rattle.model.specs.Examples.{MemoryLags, WordBeforeMemory, DroppedWriteTells, DroppedReadTells, RoomsHold}
+use Rattle.model.specs.Examples.{MemoryLags, WordBeforeMemory, DroppedWriteTells, DroppedReadTells, RoomsHold, RefusedByNumber}
 
 pub memory-lags : MemoryLags
 unfolding cellOf bankOf filledBelow carried servedBank servedBelow scan placed retired arrived afterService passed rowsOk entriesOk buffersOk exactIn standingIn offeredOf freshIn stepOf cycleIn afterAll historyFrom
@@ -27,3 +27,7 @@ dropped-read-tells = (refl, refl)
 pub rooms-hold : RoomsHold
 unfolding cellOf bankOf filledBelow carried servedBank servedBelow scan placed retired arrived afterService passed rowsOk entriesOk buffersOk exactIn standingIn offeredOf freshIn stepOf cycleIn afterAll
 rooms-hold = (refl, refl, refl, refl, refl, refl)
+
+pub refused-by-number : RefusedByNumber
+unfolding cellOf bankOf filledBelow carried servedBank servedBelow scan placed retired arrived afterService passed rowsOk entriesOk buffersOk exactIn standingIn offeredOf freshIn stepOf cycleIn tellOf waitingIn
+refused-by-number = (refl, refl, refl, refl)

@@ -1,11 +1,13 @@
 -- Small runs, computed: that memory and ideal SRAM may differ, a word leaving before the memory holds it, why demand 3 has its
--- hypotheses, and what the rooms hold.
+-- hypotheses, what the rooms hold, and the refusals by their numbers.
 use Prim.Native.Nat.{ℕ, suc}
 use mathlib.Core.Path.{_≡_}
+use mathlib.Core.Bool.{Bool, true, false}
 use mathlib.Core.List.{List, [], _∷_, map}
 use lib.ListN.{getD, take, replicate}
 use Rattle.setup.specs.Setup.{withDefaults}
 use Rattle.setup.specs.declared.Setup.{Setup}
+use Rattle.setup.specs.Examples.{setupWith}
 use Rattle.port.specs.declared.Operation.{Operation}
 use Rattle.port.specs.declared.Operation.the-variants.{Idle, Read, Write}
 use Rattle.port.specs.declared.Delivery.{Delivery}
@@ -13,7 +15,7 @@ use Rattle.port.specs.declared.Delivery.the-variants.{None, Word}
 use Rattle.port.specs.declared.Reply.{Reply}
 use Rattle.model.specs.Lent.{Lent, lent}
 use Rattle.model.specs.Range.{lengthsOf, zeroed}
-use Rattle.model.specs.Calls.{freshState, waitingOf}
+use Rattle.model.specs.Calls.{freshState, freshOf, cycleOf, waitingOf}
 use Rattle.model.specs.Runs.{Machine, replies, fresh}
 use Rattle.model.specs.Sram.{sram}
 use Rattle.model.specs.Promises.{reached, startWord, history}
@@ -54,7 +56,7 @@ counts g ops b cycles = map (λ (t : ℕ). asked g (reached g (zeros g) (upTo t 
 -- P7: the memory lags behind the ideal SRAM, and never holds 5; every word handed out is the ideal SRAM's all the same
 
 abbrev pub p7 : Setup
-p7 = record { mode = 1; a = 1; s = 0; m = 1; k = 1; delta = 1; c = 2; u = 1; v = 0 }
+p7 = setupWith 1 1 0 1 1 1 2 1 0
 
 abbrev pub twice : List Operation
 twice = write 0 5 ∷ write 0 6 ∷ Idle ∷ Idle ∷ Idle ∷ []
@@ -78,7 +80,7 @@ WordBeforeMemory =
 -- Two depths: one bank served in every second cycle, Δ = C = 4, one place against two
 
 abbrev pub depth : (mode k : ℕ) → Setup
-depth mode k = record { mode = mode; a = 1; s = 0; m = 2; k = k; delta = 4; c = 4; u = 1; v = 0 }
+depth mode k = setupWith mode 1 0 2 k 4 4 1 0
 
 -- plain: where an earlier write was dropped the words differ
 abbrev pub rewritten : List Operation
@@ -125,3 +127,26 @@ RoomsHold =
     × (roomsAfter 1 joined .rows ≡ 1 ∷ 2 ∷ 3 ∷ 3 ∷ 0 ∷ 0 ∷ 1 ∷ 1 ∷ 0 ∷ 0 ∷ 2 ∷ 2 ∷ 5 ∷ 5 ∷ 0 ∷ 0 ∷ [])
     × (roomsAfter 1 joined .buffers .entries ≡ 0 ∷ 2 ∷ 1 ∷ 0 ∷ 9 ∷ 9 ∷ 9 ∷ 9 ∷ [])
     × (roomsAfter 1 joined .buffers .heads ≡ 0 ∷ 1 ∷ [])
+
+------------------------------------------------------------------------
+-- The refusals by their numbers, under P7's setup, whose rooms have 2, 8, 4 and 2 numbers
+
+-- a fresh start over rooms of these lengths
+abbrev pub startedOver : (memory rows entries heads : ℕ) → ℕ
+startedOver memory rows entries heads =
+    freshOf p7 freshState (lent (replicate memory 0) (replicate rows 0) (replicate entries 0) (replicate heads 0)) .0 .answer
+
+-- a cycle over rooms of zeros, under a setup of this mode and a state of this turn and stop mark
+abbrev pub cycledOn : (mode turn : ℕ) → Bool → Operation → ℕ
+cycledOn mode turn stopped op =
+    cycleOf (setupWith mode 1 0 1 1 1 2 1 0) (record { stamp = 0; turn = turn; position = 0; stopped = stopped }) op (zeros p7 .1) .0 .reply .answer
+
+abbrev pub RefusedByNumber : Type 0
+RefusedByNumber =
+    -- each length one less and one more
+    (startedOver 2 8 4 2 ∷ startedOver 1 8 4 2 ∷ startedOver 3 8 4 2 ∷ startedOver 2 7 4 2 ∷ startedOver 2 9 4 2 ∷ [] ≡ 0 ∷ 2 ∷ 2 ∷ 2 ∷ 2 ∷ [])
+    × (startedOver 2 8 3 2 ∷ startedOver 2 8 5 2 ∷ startedOver 2 8 4 1 ∷ startedOver 2 8 4 3 ∷ [] ≡ 2 ∷ 2 ∷ 2 ∷ 2 ∷ [])
+    -- 1 before 3 before 7 before 4, and none of them
+    × (cycledOn 2 1 true (read 2) ∷ cycledOn 1 1 true (read 2) ∷ cycledOn 1 0 true (read 2) ∷ cycledOn 1 0 false (read 2) ∷ cycledOn 1 0 false (read 1) ∷ [] ≡ 1 ∷ 3 ∷ 7 ∷ 4 ∷ 0 ∷ [])
+    -- a bank at or above B
+    × (waitingOf p7 freshState 1 (zeros p7 .1) .answer ≡ 4)

@@ -1,3 +1,4 @@
 pub mod Operation
 pub mod RoundTrip
 pub mod OneResult
+pub mod Examples

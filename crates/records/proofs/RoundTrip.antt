@@ -16,7 +16,7 @@ use Rattle.port.specs.declared.Operation.the-variants.{Idle, Read, Write}
 use Rattle.bytes.specs.Bytes.{byteAt, Bytes, numberAt, bytesOf}
 use Rattle.bytes.proofs.Numbers.{number-bytes, bytes-number, bytes-byte}
 use Rattle.records.specs.declared.OperationRecord.{OperationRecord}
-use Rattle.records.specs.Records.{operationSize, idleRecordKind, readRecordKind, writeRecordKind, operationZeros, goodIf, operationFrom, operationOf, operationAnswer, operationOr, operationLayout, operationBytes}
+use Rattle.records.specs.Records.{operationSize, idleRecordKind, readRecordKind, writeRecordKind, operationZeros, goodIf, operationFrom, operationOf, operationAnswer, operationOr, operationLayout, operationBytes, operationWritten}
 use Rattle.records.specs.RoundTrip.{FitsWord, Fits, OperationReadAsWritten, OperationWrittenAsRead, OperationAnswered}
 
 ------------------------------------------------------------------------
@@ -35,8 +35,14 @@ operation-good Idle h = layout-read idleRecordKind 0 0 (lit< tt) (lit< tt)
 operation-good (Read x) h = layout-read readRecordKind (x .0) 0 h (lit< tt)
 operation-good (Write x word) h = layout-read writeRecordKind (x .0) word (h .0) (h .1)
 
+-- a room of the record's length is written
+written-there : (op : Operation) (room : List ℕ) → length room ≡ operationSize → operationWritten op room ≡ (done, operationBytes op)
+unfolding operationWritten
+written-there op room h = rw h
+
 pub operation-read-as-written : OperationReadAsWritten
-operation-read-as-written op none h = (ap operationAnswer (operation-good op h), ap (operationOr none) (operation-good op h))
+operation-read-as-written op none room h l =
+    rw (written-there op room l) (refl, ap operationAnswer (operation-good op h), ap (operationOr none) (operation-good op h))
 
 ------------------------------------------------------------------------
 -- Writing what was read gives the same bytes
@@ -105,11 +111,12 @@ good-written s op b h =
     sym (layout-back _ _ _ op (p .1)) ∙ layout-bytes s b (search (and-l, and-r, eqb-true)) z₁ z₂ z₃
 
 pub operation-written-as-read : OperationWrittenAsRead
-operation-written-as-read s none b = go (operationOf s) refl
+operation-written-as-read s room none b = go (operationOf s) refl
   where
-    go : (r : OperationRecord) → operationOf s ≡ r → operationAnswer r ≡ done → operationBytes (operationOr none r) ≡ s
-    go (OperationRecord.Good op) e h = good-written s op b e
-    go OperationRecord.Bad e h = absurd (omega (arith, h))
+    go : (r : OperationRecord) → operationOf s ≡ r → operationAnswer r ≡ done → length room ≡ operationSize
+        → operationWritten (operationOr none r) room ≡ (done, s)
+    go (OperationRecord.Good op) e h l = written-there op room l ∙ ap (λ (x : List ℕ). (done, x)) (good-written s op b e)
+    go OperationRecord.Bad e h l = absurd (omega (arith, h))
 
 answered : (r : OperationRecord) → (operationAnswer r ≡ done) ⊎ (operationAnswer r ≡ badRecord)
 answered (OperationRecord.Good op) = inl refl

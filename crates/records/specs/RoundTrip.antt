@@ -3,11 +3,12 @@ use Prim.Native.Nat.{ℕ, _^_, _<_}
 use mathlib.Core.Path.{_≡_}
 use mathlib.Core.Logic.{_⊎_}
 use mathlib.Core.List.{List}
+use lib.ListN.{length}
 use Rattle.answers.specs.Answers.{done, badRecord}
 use Rattle.port.specs.declared.Operation.{Operation}
 use Rattle.port.specs.declared.Operation.the-variants.{Idle, Read, Write}
 use Rattle.bytes.specs.Bytes.{Bytes}
-use Rattle.records.specs.Records.{operationOf, operationAnswer, operationOr, operationBytes}
+use Rattle.records.specs.Records.{operationSize, operationOf, operationAnswer, operationOr, operationWritten}
 
 -- words are 32 bits, and so are addresses
 abbrev pub FitsWord : ℕ → Type 0
@@ -18,16 +19,17 @@ Fits Idle = Unit
 Fits (Read x) = FitsWord (x .0)
 Fits (Write x word) = FitsWord (x .0) × FitsWord word
 
--- reading what was written answers 0 and gives it back
+-- writing into a room of 12 bytes answers 0, and reading what it then holds answers 0 and gives the operation back
 abbrev pub OperationReadAsWritten : Type 0
-OperationReadAsWritten = (op none : Operation) → Fits op
-    → (operationAnswer (operationOf (operationBytes op)) ≡ done)
-    × (operationOr none (operationOf (operationBytes op)) ≡ op)
+OperationReadAsWritten = (op none : Operation) (room : List ℕ) → Fits op → length room ≡ operationSize
+    → (operationWritten op room .0 ≡ done)
+    × (operationAnswer (operationOf (operationWritten op room .1)) ≡ done)
+    × (operationOr none (operationOf (operationWritten op room .1)) ≡ op)
 
 -- where reading answers 0, writing what was read gives the same bytes
 abbrev pub OperationWrittenAsRead : Type 0
-OperationWrittenAsRead = (bytes : List ℕ) (none : Operation) → Bytes bytes → operationAnswer (operationOf bytes) ≡ done
-    → operationBytes (operationOr none (operationOf bytes)) ≡ bytes
+OperationWrittenAsRead = (bytes room : List ℕ) (none : Operation) → Bytes bytes → operationAnswer (operationOf bytes) ≡ done
+    → length room ≡ operationSize → operationWritten (operationOr none (operationOf bytes)) room ≡ (done, bytes)
 
 -- and else it answers 9, so exactly for what no operation is written as
 abbrev pub OperationAnswered : Type 0

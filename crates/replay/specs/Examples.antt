@@ -1,9 +1,10 @@
--- Whole runs by example, from the bytes of the files to the text: P9, the two refusals of a setup, and a short record. proofs/Examples.antt computes them.
+-- Whole runs by example, from the bytes of the files to the text: P9, the refusals of a setup, and bad records. proofs/Examples.antt computes them.
 use Prim.Native.Nat.{ℕ}
 use Prim.Native.String.{String}
 use mathlib.Core.Path.{_≡_}
 use mathlib.Core.List.{List, [], _∷_, _++_, map}
-use Rattle.setup.specs.declared.Setup.{Setup}
+use lib.ListN.{replicate}
+use Rattle.setup.specs.Examples.{setupWith}
 use Rattle.map.specs.declared.Address.{Address}
 use Rattle.port.specs.declared.Operation.the-variants.{Idle, Read, Write}
 use Rattle.records.specs.Records.{operationBytes}
@@ -14,10 +15,6 @@ use Rattle.replay.specs.Replay.{printed}
 
 abbrev pub at : ℕ → Address
 at n = record { 0 = n }
-
-abbrev pub setupWith : ℕ → ℕ → ℕ → ℕ → ℕ → ℕ → ℕ → ℕ → ℕ → Setup
-setupWith mode a s m k delta c u v =
-    record { mode = mode; a = a; s = s; m = m; k = k; delta = delta; c = c; u = u; v = v }
 
 pub record RunExample : Type 0 where
   pub file : List ℕ
@@ -37,8 +34,15 @@ runExamples =
     ∷ row [] [] "setup 1\n"
     ∷ row (setupBytes (setupWith 1 2 1 2 1 1 3 1 0)) [] "setup 1\n"
     ∷ row (setupBytes (setupWith 1 12 1 16 65 0 0 1 0)) [] "setup 8\n"
+    -- the program's room at its edges: a 12, C 1,024 and B·K 1,024, and one more of each
+    ∷ row (setupBytes (setupWith 0 12 3 8 128 1024 1024 1 0)) [] ""
+    ∷ row (setupBytes (setupWith 0 13 0 1 1 0 0 1 0)) [] "setup 8\n"
+    ∷ row (setupBytes (setupWith 0 1 0 1 1 1 1025 1 0)) [] "setup 8\n"
+    ∷ row (setupBytes (setupWith 0 4 4 1 65 0 0 1 0)) [] "setup 8\n"
     -- a short record ends the run
     ∷ row (setupBytes (setupWith 1 2 1 2 1 2 3 1 0)) (operationBytes Idle ++ (1 ∷ [])) "0 0 -\n1 9 -\n"
+    -- and so does one of unknown kind, with another record behind it
+    ∷ row (setupBytes (setupWith 1 2 1 2 1 2 3 1 0)) ((3 ∷ replicate 11 0) ++ operationBytes Idle) "0 9 -\n"
     ∷ []
 
 abbrev pub RunsAsShown : Type 0

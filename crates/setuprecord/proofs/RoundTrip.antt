@@ -12,13 +12,13 @@ use lib.Pow.{pow-mono}
 use borrow.Author.Tests.{eqb-true}
 use Rattle.answers.specs.Answers.{done, badSetup}
 use Rattle.choice.specs.Choice.{pick}
-use Rattle.setup.specs.Setup.{withDefaults, checkedOf, Ranges}
+use Rattle.setup.specs.Setup.{withDefaults, inRange, checkedOf, Ranges}
 use Rattle.setup.specs.declared.Setup.{Setup}
 use Rattle.setup.proofs.Ranges.{and-l, and-r, good-ranges}
 use Rattle.bytes.specs.Bytes.{base, byteAt, Bytes, numberAt, bytesOf}
 use Rattle.bytes.proofs.Numbers.{number-bytes, bytes-number, bytes-byte}
 use Rattle.setuprecord.specs.declared.SetupRecord.{SetupRecord}
-use Rattle.setuprecord.specs.SetupRecord.{setupSize, setupFields, setupZeros, allowed, setupOf, recordAnswer, recordedOr, setupBytes}
+use Rattle.setuprecord.specs.SetupRecord.{setupSize, setupFields, setupZeros, allowed, setupOf, recordAnswer, recordedOr, setupBytes, setupWritten}
 use Rattle.setuprecord.specs.RoundTrip.{SetupReadAsWritten, SetupWrittenAsRead, SetupAnswered}
 use Rattle.setuprecord.proofs.Choice.{first}
 
@@ -58,8 +58,15 @@ setup-good : (s : Setup) → allowed s ≡ true → setupOf (setupBytes s) ≡ S
 unfolding setupOf setupBytes bytesOf
 setup-good s h = rw (fields-read s (allowed-ranges s h), h)
 
+-- a setup in range is written into a room of the record's length
+written-there : (s : Setup) (room : List ℕ) → inRange (withDefaults s) ≡ true → length room ≡ setupSize → setupWritten s room ≡ (done, setupBytes s)
+unfolding setupWritten allowed
+written-there s room h l = rw (h, l)
+
 pub setup-read-as-written : SetupReadAsWritten
-setup-read-as-written s none h = (ap recordAnswer (setup-good s h), ap (recordedOr none) (setup-good s h))
+unfolding allowed
+setup-read-as-written s none room h l =
+    rw (written-there s room h l) (refl, ap recordAnswer (setup-good s h), ap (recordedOr none) (setup-good s h))
 
 ------------------------------------------------------------------------
 -- Writing what was read gives the same bytes
@@ -92,22 +99,27 @@ fields-bytes s b h z₀ z₁ = one-by-one
           drop-of-length-le s {i = setupSize} (omega arith),
         )
 
-good-written : (bytes : List ℕ) (s : Setup) → Bytes bytes → setupOf bytes ≡ SetupRecord.Good s → setupBytes s ≡ bytes
-unfolding setupOf
+good-written : (bytes : List ℕ) (s : Setup) → Bytes bytes → setupOf bytes ≡ SetupRecord.Good s
+    → (inRange (withDefaults s) ≡ true) × (setupBytes s ≡ bytes)
+unfolding setupOf allowed
 good-written bytes s b h =
     let f : Setup = setupFields bytes in
     let p = first (eqb (length bytes) setupSize && setupZeros bytes && allowed f) (SetupRecord.Good f) SetupRecord.Refused (SetupRecord.Good s) (refused-not-good s) h in
     let same : s ≡ f = cc (p .1) in
+    let within : allowed f ≡ true = search (and-l, and-r) in
     let z₀ : byteAt bytes 10 ≡ 0 = search (and-l, and-r, eqb-true) in
     let z₁ : byteAt bytes 11 ≡ 0 = search (and-l, and-r, eqb-true) in
-    ap setupBytes same ∙ fields-bytes bytes b (search (and-l, and-r, eqb-true)) z₀ z₁
+    (rw same within, ap setupBytes same ∙ fields-bytes bytes b (search (and-l, and-r, eqb-true)) z₀ z₁)
 
 pub setup-written-as-read : SetupWrittenAsRead
-setup-written-as-read bytes none b = go (setupOf bytes) refl
+setup-written-as-read bytes room none b = go (setupOf bytes) refl
   where
-    go : (r : SetupRecord) → setupOf bytes ≡ r → recordAnswer r ≡ done → setupBytes (recordedOr none r) ≡ bytes
-    go (SetupRecord.Good s) e h = good-written bytes s b e
-    go SetupRecord.Refused e h = absurd (omega (arith, h))
+    go : (r : SetupRecord) → setupOf bytes ≡ r → recordAnswer r ≡ done → length room ≡ setupSize
+        → (inRange (withDefaults (recordedOr none r)) ≡ true) × (setupWritten (recordedOr none r) room ≡ (done, bytes))
+    go (SetupRecord.Good s) e h l =
+        let w = good-written bytes s b e in
+        (w .0, written-there s room (w .0) l ∙ ap (λ (x : List ℕ). (done, x)) (w .1))
+    go SetupRecord.Refused e h l = absurd (omega (arith, h))
 
 answered : (r : SetupRecord) → (recordAnswer r ≡ done) ⊎ (recordAnswer r ≡ badSetup)
 answered (SetupRecord.Good s) = inl refl

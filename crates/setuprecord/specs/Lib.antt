@@ -1,2 +1,3 @@
 pub mod SetupRecord
 pub mod RoundTrip
+pub mod Examples

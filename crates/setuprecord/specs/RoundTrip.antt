@@ -4,20 +4,26 @@ use mathlib.Core.Path.{_≡_}
 use mathlib.Core.Logic.{_⊎_}
 use mathlib.Core.Bool.{true}
 use mathlib.Core.List.{List}
+use lib.ListN.{length}
 use Rattle.answers.specs.Answers.{done, badSetup}
+use Rattle.setup.specs.Setup.{withDefaults, inRange}
 use Rattle.setup.specs.declared.Setup.{Setup}
 use Rattle.bytes.specs.Bytes.{Bytes}
-use Rattle.setuprecord.specs.SetupRecord.{allowed, setupOf, recordAnswer, recordedOr, setupBytes}
+use Rattle.setuprecord.specs.SetupRecord.{setupSize, setupOf, recordAnswer, recordedOr, setupWritten}
 
--- reading what was written answers 0 and gives it back
+-- a setup in range is written into a room of 20 bytes with 0, and reading what it then holds answers 0 and gives the setup back
 abbrev pub SetupReadAsWritten : Type 0
-SetupReadAsWritten = (s none : Setup) → allowed s ≡ true
-    → (recordAnswer (setupOf (setupBytes s)) ≡ done) × (recordedOr none (setupOf (setupBytes s)) ≡ s)
+SetupReadAsWritten = (s none : Setup) (room : List ℕ) → inRange (withDefaults s) ≡ true → length room ≡ setupSize
+    → (setupWritten s room .0 ≡ done)
+    × (recordAnswer (setupOf (setupWritten s room .1)) ≡ done)
+    × (recordedOr none (setupOf (setupWritten s room .1)) ≡ s)
 
--- where reading answers 0, writing what was read gives the same bytes
+-- where reading answers 0, what was read is in range, and writing it gives the same bytes
 abbrev pub SetupWrittenAsRead : Type 0
-SetupWrittenAsRead = (bytes : List ℕ) (none : Setup) → Bytes bytes → recordAnswer (setupOf bytes) ≡ done
-    → setupBytes (recordedOr none (setupOf bytes)) ≡ bytes
+SetupWrittenAsRead = (bytes room : List ℕ) (none : Setup) → Bytes bytes → recordAnswer (setupOf bytes) ≡ done
+    → length room ≡ setupSize
+    → (inRange (withDefaults (recordedOr none (setupOf bytes))) ≡ true)
+    × (setupWritten (recordedOr none (setupOf bytes)) room ≡ (done, bytes))
 
 -- and else it answers 1, so exactly for what no setup in range is written as
 abbrev pub SetupAnswered : Type 0

@@ -6,6 +6,7 @@ use Rattle.setup.specs.declared.Setup.{Setup}
 use Rattle.setup.specs.declared.Checked.{Checked}
 use Rattle.setup.specs.declared.Checked.the-variants.{Good, Refused}
 use Rattle.setup.specs.Setup.{checkedOf, answerOf, mapOf}
+use Rattle.setup.specs.Examples.{setupWith}
 use Rattle.map.specs.declared.Cell.{Cell}
 use Rattle.map.specs.Map.{cellOf, bankOf, rowOf}
 use Rattle.port.specs.declared.Operation.{Operation}
@@ -57,10 +58,10 @@ abbrev pub _gives_ : Question → Outcome → Example
 q gives t = record { question = q; expected = t }
 
 abbrev pub plain : (a s m k delta c u v : ℕ) → Setup
-plain a s m k delta c u v = record { mode = 0; a = a; s = s; m = m; k = k; delta = delta; c = c; u = u; v = v }
+plain = setupWith 0
 
 abbrev pub merging : (a s m k delta c u v : ℕ) → Setup
-merging a s m k delta c u v = record { mode = 1; a = a; s = s; m = m; k = k; delta = delta; c = c; u = u; v = v }
+merging = setupWith 1
 
 abbrev pub sheet : List Example
 sheet =
