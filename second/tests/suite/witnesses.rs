@@ -13,7 +13,7 @@ use std::path::{Path, PathBuf};
 
 /// What the machine cannot tell of, behind the setup where there is one: a state that no run reaches, a number of the
 /// rooms that document 01 does not name, and what is no call of the controller.
-const NOT_TOLD: [&str; 16] = [
+const NOT_TOLD: [&str; 18] = [
     "the fresh start answers 1 and leaves stamp 0, promised 9",
     "bank 0 has oldest place 1, idle; call 0 answers 0, promised 3",
     "one entry of kind 2 waits, idle; call 0 answers 0, promised 3",
@@ -25,7 +25,9 @@ const NOT_TOLD: [&str; 16] = [
     "write 0 5, read 0; after call 1 row 1 has link 1, promised 0",
     "read 0; after call 0 the entry has word 1, promised 0",
     "write 0 5; after call 0 the entry has row 1, promised 0",
+    "memory of 3 words; the fresh start answers 0, promised 2",
     "the check hands out none, promised the setup of Δ 1 C 1",
+    "the record of kind 1 and address 0; read as a write, promised a read",
     "a record of 0 bytes; reading answers 2, promised 9",
     "a record of 0 bytes; reading answers 2, promised 1",
     "the record of a read of address 0; handed out as a write of the word 0 to it, promised the read",
