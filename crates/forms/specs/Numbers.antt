@@ -13,9 +13,9 @@ use Rattle.records.specs.declared.OperationRecord.{OperationRecord}
 use Rattle.setuprecord.specs.declared.SetupRecord.{SetupRecord}
 use Rattle.forms.specs.Forms.{checkedOut, lentOut, noLengths, stateOut, replyOut, setupRead, operationRead}
 
--- a refused setup's numbers
-abbrev pub nothing : Setup
-nothing = setupWith 0 0 0 0 0 0 0 0 0
+-- a refused setup: its numbers
+abbrev pub zeroSetup : Setup
+zeroSetup = setupWith 0 0 0 0 0 0 0 0 0
 
 pub record InNumbers : Type 0 where
   -- a reply: what leaves is 0 none, 1 unready, 2 a word
@@ -32,9 +32,9 @@ pub record InNumbers : Type 0 where
       → stateOut (record { stamp = stamp; turn = turn; position = position; stopped = true }) ≡ record { stamp = stamp; turn = turn; position = position; stopped = 1 }
   -- a setup that is checked or read, and its answer
   pub checked : (s : Setup) → checkedOut (Good s) ≡ record { answer = 0; setup = s }
-  pub refused : checkedOut Refused ≡ record { answer = 1; setup = nothing }
+  pub refused : checkedOut Refused ≡ record { answer = 1; setup = zeroSetup }
   pub setup-read : (s : Setup) → setupRead (SetupRecord.Good s) ≡ record { answer = 0; setup = s }
-  pub setup-refused : setupRead SetupRecord.Refused ≡ record { answer = 1; setup = nothing }
+  pub setup-refused : setupRead SetupRecord.Refused ≡ record { answer = 1; setup = zeroSetup }
   -- the lengths of the rooms
   pub lengths : (due : Lengths)
       → lentOut due ≡ record { answer = 0; memory = due .memory; rows = due .rows; entries = due .entries; heads = due .heads }

@@ -31,7 +31,7 @@ use Rattle.forms.specs.declared.Told.{Told}
 use Rattle.forms.specs.Forms.{noLengths, markOk, stateIn, stateOut, startedOut, operationIn, askedIn, refusedBy, toldOut}
 use Rattle.forms.proofs.Back.{mark-good, state-back, state-there, asked-back, refused-out}
 use Rattle.interface.specs.Interface.{lengthsIn, startWith, cycledWith, badMark, cycleIn, waitingOut, writtenIn}
-use Rattle.interface.specs.Carried.{startedBy, SameStart, SameCycle, SameQuestion, StartsC, inOrder, CyclesC, AsksC, RefusesC, LengthsC, lengthsFor, WritesC, writtenFor}
+use Rattle.interface.specs.Carried.{startedBy, SameStart, SameCycle, SameQuestion, StartsC, inOrder, CyclesC, AsksC, RefusesC, LengthsC, lengthsDue, WritesC, writtenFor}
 
 ------------------------------------------------------------------------
 -- The calls
@@ -49,7 +49,7 @@ same-question s t b x =
 ------------------------------------------------------------------------
 -- Refusals
 
-lengths-by : (s : Setup) (g : Bool) → lengthsIn (pick g (setup.Checked.Good s) setup.Checked.Refused) ≡ pick g (lengthsFor s) noLengths
+lengths-by : (s : Setup) (g : Bool) → lengthsIn (pick g (setup.Checked.Good s) setup.Checked.Refused) ≡ pick g (lengthsDue s) noLengths
 lengths-by s true = refl
 lengths-by s false = refl
 

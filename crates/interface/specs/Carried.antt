@@ -52,11 +52,11 @@ SameQuestion = (s : Setup) (t : kept.State) (b : ℕ) (x : room.Lent)
 -- Whatever C hands in
 
 -- the lengths of the rooms: N words, four numbers a row and an entry, two a bank; of a setup out of range none
-abbrev pub lengthsFor : Setup → Lent
-lengthsFor s = record { answer = done; memory = wordsOf s; rows = 4 * s .c; entries = 4 * (banksOf s * s .k); heads = 2 * banksOf s }
+abbrev pub lengthsDue : Setup → Lent
+lengthsDue s = record { answer = done; memory = wordsOf s; rows = 4 * s .c; entries = 4 * (banksOf s * s .k); heads = 2 * banksOf s }
 
 abbrev pub LengthsC : Type 0
-LengthsC = (s : Setup) → lengthsIn (checkedOf s) ≡ pick (inRange (withDefaults s)) (lengthsFor (withDefaults s)) noLengths
+LengthsC = (s : Setup) → lengthsIn (checkedOf s) ≡ pick (inRange (withDefaults s)) (lengthsDue (withDefaults s)) noLengths
 
 -- writing an operation: one that is none is refused by 9, and the room stays
 abbrev pub writtenFor : OperationRecord → List ℕ → ℕ × List ℕ
