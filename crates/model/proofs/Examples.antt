@@ -6,7 +6,7 @@ use Rattle.model.specs.Range.{rowsOk, entriesOk, buffersOk}
 use Rattle.model.specs.Calls.{exactIn, standingIn, offeredOf, freshIn, stepOf, cycleIn, tellOf, waitingIn}
 use Rattle.model.specs.Runs.{replies, afterAll}
 use Rattle.model.specs.Promises.{historyFrom}
-use Rattle.model.specs.Examples.{MemoryLags, WordBeforeMemory, DroppedWriteTells, DroppedReadTells, RoomsHold, RefusedByNumber}
+use Rattle.model.specs.Examples.{MemoryLags, WordBeforeMemory, DroppedWriteTells, DroppedReadTells, RoomsHold, RefusedByNumber, ServedInTurn, PlacesNeeded}
 
 pub memory-lags : MemoryLags
 unfolding cellOf bankOf filledBelow carried servedBank servedBelow scan placed retired arrived afterService passed rowsOk entriesOk buffersOk exactIn standingIn offeredOf freshIn stepOf cycleIn afterAll historyFrom
@@ -31,3 +31,11 @@ rooms-hold = (refl, refl, refl, refl, refl, refl)
 pub refused-by-number : RefusedByNumber
 unfolding cellOf bankOf filledBelow carried servedBank servedBelow scan placed retired arrived afterService passed rowsOk entriesOk buffersOk exactIn standingIn offeredOf freshIn stepOf cycleIn tellOf waitingIn
 refused-by-number = (refl, refl, refl, refl)
+
+pub served-in-turn : ServedInTurn
+unfolding cellOf bankOf filledBelow carried servedBank servedBelow scan placed retired arrived afterService passed rowsOk entriesOk buffersOk exactIn standingIn offeredOf freshIn stepOf cycleIn tellOf waitingIn afterAll
+served-in-turn = (refl, refl, refl, refl)
+
+pub places-needed : PlacesNeeded
+unfolding cellOf bankOf filledBelow carried servedBank servedBelow scan placed retired arrived afterService passed rowsOk entriesOk buffersOk exactIn standingIn offeredOf freshIn stepOf cycleIn replies
+places-needed = (refl, refl, refl, refl, refl, refl)

@@ -1,5 +1,5 @@
 -- Small runs, computed: that memory and ideal SRAM may differ, a word leaving before the memory holds it, why demand 3 has its
--- hypotheses, what the rooms hold, and the refusals by their numbers.
+-- hypotheses, what the rooms hold, the refusals by their numbers, whose turn it is, and what needs a place.
 use Prim.Native.Nat.{ℕ, suc}
 use mathlib.Core.Path.{_≡_}
 use mathlib.Core.Bool.{Bool, true, false}
@@ -150,3 +150,33 @@ RefusedByNumber =
     × (cycledOn 2 1 true (read 2) ∷ cycledOn 1 1 true (read 2) ∷ cycledOn 1 0 true (read 2) ∷ cycledOn 1 0 false (read 2) ∷ cycledOn 1 0 false (read 1) ∷ [] ≡ 1 ∷ 3 ∷ 7 ∷ 4 ∷ 0 ∷ [])
     -- a bank at or above B
     × (waitingOf p7 freshState 1 (zeros p7 .1) .answer ≡ 4)
+
+------------------------------------------------------------------------
+-- Turns and needs, which the ledger has from document 01's words alone
+
+-- four banks, m 3: what a question of a bank tells after each of four cycles, its read having arrived in the first
+abbrev pub afterRead : (bank : ℕ) → List ℕ
+afterRead bank = counts (setupWith 0 2 2 3 1 3 3 1 0) (read bank ∷ Idle ∷ Idle ∷ Idle ∷ []) bank (0 ∷ 1 ∷ 2 ∷ 3 ∷ [])
+
+-- bank b is served where b mod m = t mod m
+abbrev pub ServedInTurn : Type 0
+ServedInTurn =
+    (afterRead 0 ≡ 1 ∷ 1 ∷ 1 ∷ 0 ∷ [])
+    × (afterRead 1 ≡ 1 ∷ 0 ∷ 0 ∷ 0 ∷ [])
+    × (afterRead 2 ≡ 1 ∷ 1 ∷ 0 ∷ 0 ∷ [])
+    × (afterRead 3 ≡ 1 ∷ 1 ∷ 1 ∷ 0 ∷ [])
+
+-- one bank, m 2, K 1, Δ and C 2: the read of cycle 0 fills the buffer, and this arrives at cycle 1
+abbrev pub behindRead : (mode : ℕ) → Operation → List (ℕ × Delivery)
+behindRead mode op = heard (setupWith mode 1 0 2 1 2 2 1 0) (read 0 ∷ op ∷ [])
+
+-- merging, a write needs no place, nor does a read of a live address; any other read does, and plain both do
+abbrev pub PlacesNeeded : Type 0
+PlacesNeeded =
+    (behindRead 1 (write 1 5) ≡ (0, None) ∷ (0, None) ∷ [])
+    × (behindRead 1 (read 0) ≡ (0, None) ∷ (0, None) ∷ [])
+    × (behindRead 1 (read 1) ≡ (0, None) ∷ (5, None) ∷ [])
+    × (behindRead 0 (write 1 5) ≡ (0, None) ∷ (5, None) ∷ [])
+    × (behindRead 0 (read 0) ≡ (0, None) ∷ (5, None) ∷ [])
+    -- the retiring write has its place before the read that arrives: m, K, Δ and C 1
+    × (heard (setupWith 1 1 0 1 1 1 1 1 0) (write 0 5 ∷ read 0 ∷ []) ≡ (0, None) ∷ (5, None) ∷ [])
