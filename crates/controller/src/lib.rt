@@ -1,9 +1,7 @@
 // The controller: a fresh start, a cycle and a question, over memory that the caller lends.
 ghost use mathlib.Core.Path.{_≡_};
-ghost use lib.ListN.{length, replicate};
 ghost use Rattle.model.specs.Lent.{lent};
-ghost use Rattle.model.specs.Range.{Ready};
-ghost use Rattle.model.specs.Calls.{freshOf, stepOf, cycleOf, waitingOf};
+ghost use Rattle.model.specs.Calls.{freshOf, cycleOf, waitingOf};
 use model::Cycled;
 use model::Standing;
 use model::Started;
@@ -11,17 +9,6 @@ use model::State;
 use model::Waiting;
 use port::Operation;
 use setup::Setup;
-
-// Fills the room with zeros.
-fn clear(room: &mut [u32])
-    ensures { λ _. ⌜ now (room .exit) ≡ replicate (length (now (room .entry))) 0 ⌝ }
-{
-    let mut i = 0;
-    while i < room.len() {
-        room[i] = 0;
-        i += 1;
-    }
-}
 
 // A fresh start: rows and buffers are emptied, and the memory words stay.
 pub fn fresh_start(
@@ -38,36 +25,14 @@ pub fn fresh_start(
     match refusals::exact(setup, memory, rows, entries, heads) {
         Standing::Refusal(answer) => Started { answer, state: t },
         Standing::Sound(_) => {
-            clear(rows);
-            clear(heads);
+            rings::clear(rows);
+            rings::clear(heads);
             Started {
                 answer: answers::DONE,
                 state: refusals::first_state(),
             }
         }
     }
-}
-
-// A cycle once 1, 2 and 3 are past: 7, then 4, and else it is not refused.
-fn step(
-    s: Setup,
-    t: State,
-    op: Operation,
-    memory: &mut [u32],
-    rows: &mut [u32],
-    entries: &mut [u32],
-    heads: &mut [u32],
-) -> Cycled
-    requires { ⌜ Ready s t (lent (now memory) (now rows) (now entries) (now heads)) ⌝ }
-    ensures { λ r. ⌜ (r, lent (now (memory .exit)) (now (rows .exit)) (now (entries .exit)) (now (heads .exit)))
-        ≡ stepOf s t op (lent (now (memory .entry)) (now (rows .entry)) (now (entries .entry)) (now (heads .entry))) ⌝ }
-{
-    let n = refusals::offered(s, t, op);
-    if n != answers::DONE {
-        return refusals::refuse(n, t);
-    }
-    service::serve(s, t.turn, memory, rows, entries, heads);
-    arrival::go_on(s, t, op, rows, entries, heads)
 }
 
 // One cycle.
@@ -85,7 +50,13 @@ pub fn cycle(
 {
     match refusals::standing(setup, t, memory, rows, entries, heads) {
         Standing::Refusal(n) => refusals::refuse(n, t),
-        Standing::Sound(s) => step(s, t, op, memory, rows, entries, heads),
+        Standing::Sound(s) => {
+            let n = refusals::offered(s, t, op);
+            if n != answers::DONE {
+                return refusals::refuse(n, t);
+            }
+            passage::pass(s, t, op, memory, rows, entries, heads)
+        }
     }
 }
 

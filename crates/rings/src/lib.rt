@@ -1,8 +1,19 @@
-// Places of a lent room: four numbers at each, and steps that go round.
+// A lent room: zeros in all of it, four numbers at a place of it, and steps that go round.
 ghost use mathlib.Core.Path.{_≡_};
 ghost use Prim.Native.Nat.{_+_, _*_, _≤_, _<_};
-ghost use lib.ListN.{length};
+ghost use lib.ListN.{length, replicate};
 ghost use Rattle.rings.specs.Places.{putFour, onward, back};
+
+// Fills the room with zeros.
+pub fn clear(room: &mut [u32])
+    ensures { λ _. ⌜ now (room .exit) ≡ replicate (length (now (room .entry))) 0 ⌝ }
+{
+    let mut i = 0;
+    while i < room.len() {
+        room[i] = 0;
+        i += 1;
+    }
+}
 
 // Puts four numbers at place i.
 pub fn put_four(room: &mut [u32], i: usize, a: u32, b: u32, c: u32, d: u32)

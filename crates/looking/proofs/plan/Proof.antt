@@ -1,4 +1,4 @@
--- `arrival::plan` meets its contract: the cases are the definition's. Assumes nothing.
+-- `looking::plan` meets its contract: the cases are the definition's. Assumes nothing.
 use Prim.Native.Nat.{ℕ}
 use mathlib.Core.Path.{_≡_}
 use mathlib.Core.List.{List}
@@ -12,8 +12,8 @@ use Rattle.model.specs.declared.Plan.{Plan}
 use Rattle.model.specs.Lent.{emptyRow}
 use Rattle.model.specs.Cycle.{newestLive, planWith, readPlan, mergedPlan, writePlan, planned}
 use borrow.Author.Needs.{needs}
-use Rattle.arrival.proofs.plan.Statement.{statement}
-use Rattle.arrival.proofs.plan.Tie as tie
+use Rattle.looking.proofs.plan.Statement.{statement}
+use Rattle.looking.proofs.plan.Tie as tie
 
 module _ (s : Setup) (position : ℕ) (op : Operation) (rows : List ℕ) (p : Plan) where
   idle-plans : op ≡ Idle → p ≡ planWith emptyRow NoEntry → p ≡ planned s position op rows

@@ -1,4 +1,4 @@
--- `arrival::give_up` meets its contract: each return knows the values of the definition's tests. Assumes nothing.
+-- `looking::give_up` meets its contract: each return knows the values of the definition's tests. Assumes nothing.
 use Prim.Native.Nat.{ℕ}
 use mathlib.Core.Path.{_≡_}
 use mathlib.Core.Bool.{true, false}
@@ -13,8 +13,8 @@ use Rattle.model.specs.declared.Placing.the-variants.{NoEntry}
 use Rattle.model.specs.Lent.{writeKind, rowAt}
 use Rattle.model.specs.Cycle.{newestWrite, givenUpWrite, givenUp}
 use borrow.Author.Needs.{needs}
-use Rattle.arrival.proofs.give_up.Statement.{statement}
-use Rattle.arrival.proofs.give_up.Tie as tie
+use Rattle.looking.proofs.give_up.Statement.{statement}
+use Rattle.looking.proofs.give_up.Tie as tie
 
 module _ (s : Setup) (position : ℕ) (rows : List ℕ) where
   plain-gives-none : (s .mode ≡ 1 → ⊥) → NoEntry ≡ givenUp s position rows

@@ -1,4 +1,4 @@
--- `controller::clear` meets its contract: below i the room is zeros. Assumes nothing.
+-- `rings::clear` meets its contract: below i the room is zeros. Assumes nothing.
 use Prim.Native.Nat.{ℕ, zero, suc, _+_, _-_, _≤_, _<_}
 use mathlib.Core.Path.{_≡_, refl, sym, ap, _∙_}
 use mathlib.Core.List.{List, [], _∷_, _++_}
@@ -8,8 +8,8 @@ use lib.ListN.{length, take, set, replicate, length-set}
 use lib.Seq.{take-suc-set, take-all}
 use denote.Ref.{now}
 use borrow.Author.Needs.{needs}
-use Rattle.controller.proofs.clear.Statement.{statement}
-use Rattle.controller.proofs.clear.Tie as tie
+use Rattle.rings.proofs.clear.Statement.{statement}
+use Rattle.rings.proofs.clear.Tie as tie
 
 snoc : (n z : ℕ) → replicate n z ++ (z ∷ []) ≡ replicate (suc n) z
 snoc zero z = refl

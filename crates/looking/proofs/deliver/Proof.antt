@@ -1,4 +1,4 @@
--- `arrival::deliver` meets its contract: the calls give the row. Assumes nothing.
+-- `looking::deliver` meets its contract: the calls give the row. Assumes nothing.
 use Prim.Native.Nat.{ℕ}
 use mathlib.Core.Path.{_≡_}
 use mathlib.Core.List.{List}
@@ -9,8 +9,8 @@ use Rattle.rings.specs.Places.{back}
 use Rattle.model.specs.Lent.{rowAt}
 use Rattle.model.specs.Cycle.{leaves, delivered}
 use borrow.Author.Needs.{needs}
-use Rattle.arrival.proofs.deliver.Statement.{statement}
-use Rattle.arrival.proofs.deliver.Tie as tie
+use Rattle.looking.proofs.deliver.Statement.{statement}
+use Rattle.looking.proofs.deliver.Tie as tie
 
 -- the row of that place leaves what is delivered
 row-leaves : (s : Setup) (position : ℕ) (rows : List ℕ) (i : ℕ) (r : Row) (d : Delivery) → i ≡ back (s .c) position (s .delta) → r ≡ rowAt (s .c) rows i → d ≡ leaves r

@@ -1,4 +1,4 @@
--- `arrival::merge_read` meets its contract: what the lookup answered is the case of the definition. Assumes nothing.
+-- `looking::merge_read` meets its contract: what the lookup answered is the case of the definition. Assumes nothing.
 use Prim.Native.Nat.{ℕ}
 use native.Mathlib.Omega.{arith}
 use mathlib.Core.Path.{_≡_}
@@ -14,8 +14,8 @@ use Rattle.model.specs.Lent.{rowAt}
 use Rattle.model.specs.Cycle.{newestLive, planWith, readPlan, mergedRow, mergedPlan}
 use Rattle.lookup.proofs.Lookup.{found-below}
 use borrow.Author.Needs.{needs}
-use Rattle.arrival.proofs.merge_read.Statement.{statement}
-use Rattle.arrival.proofs.merge_read.Tie as tie
+use Rattle.looking.proofs.merge_read.Statement.{statement}
+use Rattle.looking.proofs.merge_read.Tie as tie
 
 module _ (s : Setup) (position : ℕ) (a : Address) (rows : List ℕ) (f : Found) (ef : f ≡ newestLive s position a rows) (p : Plan) where
   alone-plans : f ≡ Nothing → p ≡ readPlan s position a → p ≡ mergedPlan s position a (newestLive s position a rows) rows
