@@ -1,4 +1,4 @@
--- `passage::pass` meets its contract: what is left by service is good, so the rest of the cycle may go on. Assumes nothing.
+-- `passage::pass` meets its contract: service, and the rest of the cycle on what it leaves. Assumes nothing.
 use Prim.Native.Nat.{ℕ}
 use mathlib.Core.Path.{_≡_}
 use mathlib.Core.List.{List}
@@ -16,6 +16,7 @@ use Rattle.model.proofs.Service.{served-at-good}
 use Rattle.passage.proofs.pass.Statement.{statement}
 use Rattle.passage.proofs.pass.Tie as tie
 
+-- what is left by service is good, so the rest of the cycle may go on
 served-good : (s : Setup) (turn : ℕ) (memory rows entries heads memory′ rows′ heads′ : List ℕ) → Good s (lent memory rows entries heads)
     → lent memory′ rows′ entries heads′ ≡ served s turn (lent memory rows entries heads)
     → Ranges s × (length rows′ ≡ lengthsOf s .rows) × GoodBuffers s (buffersIn entries heads′)
@@ -23,6 +24,7 @@ served-good s turn memory rows entries heads memory′ rows′ heads′ g e =
     let h : Good s (lent memory′ rows′ entries heads′) = served-at-good s turn (lent memory rows entries heads) g e in
     (h .ranges, h .rows .long, h .buffers)
 
+-- both calls are the definition's
 went-on : (s : Setup) (t : State) (op : Operation) (memory rows entries heads memory′ rows′ heads′ rows″ entries″ heads″ : List ℕ) (r : Cycled)
     → lent memory′ rows′ entries heads′ ≡ served s (t .turn) (lent memory rows entries heads)
     → (r, (rows″, buffersIn entries″ heads″)) ≡ afterService s t op rows′ (buffersIn entries heads′)
