@@ -18,8 +18,8 @@ within-memory map x g = (mod-lt _ (pow-pos (map .a)), bank-below map (cellOf map
 
 pub split-joins : SplitJoins
 unfolding bankOf
-split-joins map x = ap (λ (n : ℕ). record { 0 = n }) (split (x .0) (map .s))
+split-joins map x h = ap (λ (n : ℕ). record { 0 = n }) (split (x .0) (map .s))
 
 pub join-splits : JoinSplits
 unfolding bankOf
-join-splits map b r h = (low r (map .s) h, high r (map .s) h)
+join-splits map b r h _ = (low r (map .s) h, high r (map .s) h)

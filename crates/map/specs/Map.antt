@@ -65,9 +65,9 @@ OneToOne = (map : Map) (x y : Address) → Ranges map → x .0 < wordsOf map →
 abbrev pub WithinMemory : Type 0
 WithinMemory = (map : Map) (x : Address) → Ranges map → (cellOf map x .0 < wordsOf map) × (bankOf map (cellOf map x) < banksOf map)
 
--- bank and row together name the cell, and the cell names both
+-- bank and row together name the cell, for each of the N, and the cell names both, for each of the B and each row inside it
 abbrev pub SplitJoins : Type 0
-SplitJoins = (map : Map) (x : Cell) → joinOf map (bankOf map x) (rowOf map x) ≡ x
+SplitJoins = (map : Map) (x : Cell) → x .0 < wordsOf map → joinOf map (bankOf map x) (rowOf map x) ≡ x
 
 abbrev pub JoinSplits : Type 0
-JoinSplits = (map : Map) (b r : ℕ) → b < banksOf map → (bankOf map (joinOf map b r) ≡ b) × (rowOf map (joinOf map b r) ≡ r)
+JoinSplits = (map : Map) (b r : ℕ) → b < banksOf map → r < rowsOf map → (bankOf map (joinOf map b r) ≡ b) × (rowOf map (joinOf map b r) ≡ r)
