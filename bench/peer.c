@@ -336,11 +336,12 @@ static uint32_t newest(const uint32_t *rows, uint32_t c, uint32_t position, uint
     return found;
 }
 
-/* Placing: puts the entry behind the others of its bank and tells whether there was a place. */
+/* Placing: puts the entry behind the others of its bank, which the cell's top s bits name, and tells whether there was a
+ * place. */
 static int place_entry(const ridkostan_setup *s, uint32_t kind, uint32_t row, uint32_t cell, uint32_t word, uint32_t *entries,
                        uint32_t *heads)
 {
-    const uint32_t bank = cell & ((1u << s->s) - 1);
+    const uint32_t bank = cell >> (s->a - s->s);
     uint32_t *head = heads + HEAD * bank, i = head[OLDEST] + head[COUNT];
 
     if (head[COUNT] == s->k)

@@ -320,7 +320,8 @@ static uint64_t count_packets(struct card *card, struct source *source, struct p
 
 int main(int argc, char **argv)
 {
-    uint32_t n[NUMBERS] = {RIDKOSTAN_MERGING, 10, 4, 8, 8, 0, 128, 5, 3, 4000, 0};
+    /* u is the odd number nearest to N over the golden ratio: neighbouring flows lie in different banks. */
+    uint32_t n[NUMBERS] = {RIDKOSTAN_MERGING, 10, 4, 8, 8, 0, 128, 633, 3, 4000, 0};
     struct source source = {.random = 2463534242u};
     for (int i = 1; i < argc; i++) {
         bool file = strchr(argv[i], '=') == NULL;

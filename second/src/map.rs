@@ -17,10 +17,11 @@ impl Configuration {
         Cell((image % u64::from(self.words())) as u32)
     }
 
-    /// The bank of a cell and its row inside that bank: the low s bits, and the rest.
+    /// The bank of a cell and its row inside that bank: the top s of the cell's a bits, and the rest. So bank b has the
+    /// N/B cells from b·N/B on, in their order.
     pub fn bank_and_row(&self, Cell(cell): Cell) -> (usize, u32) {
-        let banks = 1 << self.s;
-        ((cell % banks) as usize, cell / banks)
+        let words = self.words_in_bank();
+        ((cell / words) as usize, cell % words)
     }
 
     pub fn bank(&self, cell: Cell) -> usize {

@@ -113,4 +113,9 @@ impl Configuration {
     pub fn banks(&self) -> usize {
         1 << self.s
     }
+
+    /// N/B, the number of words in each bank.
+    pub fn words_in_bank(&self) -> u32 {
+        self.words() / self.banks() as u32
+    }
 }

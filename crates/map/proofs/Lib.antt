@@ -1,2 +1,4 @@
 pub mod OneToOne
 pub mod Split
+pub mod Steps
+pub mod Examples

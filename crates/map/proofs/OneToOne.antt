@@ -43,7 +43,7 @@ up a u v x y odd ly le h =
     let z : y - x ≡ 0 = none-below (2 ^ a) (y - x) (odd-cancel a u (y - x) odd d) (omega arith) in
     omega arith
 
-same-number : (a u v x y : ℕ) → u % 2 ≡ 1 → x < 2 ^ a → y < 2 ^ a → (u * x + v) % 2 ^ a ≡ (u * y + v) % 2 ^ a → x ≡ y
+pub same-number : (a u v x y : ℕ) → u % 2 ≡ 1 → x < 2 ^ a → y < 2 ^ a → (u * x + v) % 2 ^ a ≡ (u * y + v) % 2 ^ a → x ≡ y
 same-number a u v x y odd lx ly h =
     ⊎-elim (λ w. up a u v x y odd ly (omega arith) h) (λ w. sym (up a u v y x odd lx (omega arith) (sym h))) (eq-zero-or-pos (x - y))
 

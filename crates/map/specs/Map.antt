@@ -17,25 +17,25 @@ banksOf map = 2 ^ (map .s)
 unfoldable pub cellOf : Map → Address → Cell
 cellOf map x = record { 0 = (map .u * x .0 + map .v) % wordsOf map }
 
--- the low s bits of the cell number name the bank
+-- the rows inside one bank: 2^(a − s) of them
+abbrev pub rowsOf : Map → ℕ
+rowsOf map = 2 ^ (map .a - map .s)
+
+-- the top s of the cell number's a bits name the bank
 unfoldable pub bankOf : Map → Cell → ℕ
-bankOf map x = x .0 % banksOf map
+bankOf map x = x .0 / rowsOf map % banksOf map
 
 -- the bank of an address
 abbrev pub bankAt : Map → Address → ℕ
 bankAt map x = bankOf map (cellOf map x)
 
--- the remaining bits name the row inside it
+-- the other a − s bits name the row inside it
 abbrev pub rowOf : Map → Cell → ℕ
-rowOf map x = x .0 / banksOf map
-
--- the rows inside one bank
-abbrev pub rowsOf : Map → ℕ
-rowsOf map = 2 ^ (map .a - map .s)
+rowOf map x = x .0 % rowsOf map
 
 -- the split turned round: the cell of a row of a bank
 abbrev pub joinOf : Map → ℕ → ℕ → Cell
-joinOf map bank row = record { 0 = row * banksOf map + bank }
+joinOf map bank row = record { 0 = bank * rowsOf map + row }
 
 ------------------------------------------------------------------------
 -- What a checked setup knows of its map
@@ -71,3 +71,9 @@ SplitJoins = (map : Map) (x : Cell) → x .0 < wordsOf map → joinOf map (bankO
 
 abbrev pub JoinSplits : Type 0
 JoinSplits = (map : Map) (b r : ℕ) → b < banksOf map → r < rowsOf map → (bankOf map (joinOf map b r) ≡ b) × (rowOf map (joinOf map b r) ≡ r)
+
+-- B addresses in steps of N/B have B different banks
+abbrev pub StepsMeetEach : Type 0
+StepsMeetEach =
+    (map : Map) (x i j : ℕ) → Ranges map → i < banksOf map → j < banksOf map
+    → bankAt map (record { 0 = x + i * rowsOf map }) ≡ bankAt map (record { 0 = x + j * rowsOf map }) → i ≡ j

@@ -1,6 +1,6 @@
 // The address map: from an address to its cell, and from a cell to its bank and the row inside it.
 ghost use mathlib.Core.Path.{_≡_};
-ghost use Prim.Native.Nat.{_^_, _<_};
+ghost use Prim.Native.Nat.{_^_, _-_, _<_};
 ghost use Rattle.map.specs.Map.{wordsOf, banksOf, cellOf, bankOf, rowOf, rowsOf, joinOf, Sizes};
 
 // The four numbers of a setup that the map takes.
@@ -44,6 +44,14 @@ impl Map {
     {
         two_to(self.s)
     }
+
+    // The bits that name a row inside its bank.
+    fn row_bits(self) -> u8
+        requires { ⌜ Sizes self ⌝ }
+        ensures { λ r. ⌜ r ≡ self .a - self .s ⌝ }
+    {
+        self.a - self.s
+    }
 }
 
 impl Address {
@@ -59,20 +67,21 @@ impl Address {
 }
 
 impl Cell {
-    // The low s bits name the bank.
+    // The top s of the cell's a bits name the bank.
     pub fn bank(self, map: Map) -> u32
         requires { ⌜ Sizes map ⌝ }
         ensures { λ r. ⌜ r ≡ bankOf map self ⌝ }
     {
-        self.0 & (map.banks() - 1)
+        (self.0 >> map.row_bits()) & (map.banks() - 1)
     }
 
-    // The remaining bits name the row inside it.
+    // The other a - s bits name the row inside it.
     pub fn row(self, map: Map) -> u32
         requires { ⌜ Sizes map ⌝ }
         ensures { λ r. ⌜ r ≡ rowOf map self ⌝ }
     {
-        self.0 >> map.s
+        let rows = two_to(map.row_bits());
+        self.0 & (rows - 1)
     }
 
     // The split turned round: the cell of a row of a bank.
@@ -81,6 +90,6 @@ impl Cell {
         requires { ⌜ (bank < banksOf map) × (row < rowsOf map) ⌝ }
         ensures { λ r. ⌜ r ≡ joinOf map bank row ⌝ }
     {
-        Cell((row << map.s) | bank)
+        Cell((bank << map.row_bits()) | row)
     }
 }

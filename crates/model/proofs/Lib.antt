@@ -29,6 +29,8 @@ pub mod Steps
 pub mod Follows
 pub mod Signed
 pub mod Tracks
+-- What the naming of banks leaves alone.
+pub mod Words
 -- Demand 3: two ledgers that differ in depth alone.
 pub mod Deeper
 pub mod Depths

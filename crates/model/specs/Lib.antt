@@ -6,6 +6,7 @@ pub mod Runs
 pub mod Sram
 pub mod Ledger
 pub mod Promises
+pub mod Words
 pub mod Tracks
 pub mod Depths
 pub mod Examples

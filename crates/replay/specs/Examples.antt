@@ -29,7 +29,7 @@ runExamples =
     -- P9
     row (setupBytes (setupWith 1 2 1 2 1 2 3 1 0))
     (bytesFor (Write (at 1) 10 ∷ Read (at 1) ∷ Read (at 2) ∷ Idle ∷ Read (at 2) ∷ Read (at 3) ∷ Read (at 1) ∷ Idle ∷ []))
-    "0 0 -\n1 0 -\n2 0 -\n3 0 10\n4 0 0\n5 0 -\n6 5 0\n7 0 0\n"
+    "0 0 -\n1 0 -\n2 0 -\n3 0 10\n4 0 0\n5 0 -\n6 0 0\n7 0 0\n"
     -- no file, a setup out of range, and one whose C by default is 1,040
     ∷ row [] [] "setup 1\n"
     ∷ row (setupBytes (setupWith 1 2 1 2 1 1 3 1 0)) [] "setup 1\n"

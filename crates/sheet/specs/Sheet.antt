@@ -1,4 +1,4 @@
--- The document's "Bench examples": each row has what is asked and what the document expects.
+-- The document's "Bench examples": each row has what is asked and what is expected, P1, P8 and P9 with the bank by the top bits (Q-1).
 use Prim.Native.Nat.{ℕ}
 use mathlib.Core.Path.{_≡_}
 use mathlib.Core.List.{List, [], _∷_, map}
@@ -66,7 +66,7 @@ merging = setupWith 1
 abbrev pub sheet : List Example
 sheet =
     -- P1
-    (place (plain 4 2 1 1 0 0 5 3) 7 gives cell-bank-row 6 2 1)
+    (place (plain 4 2 1 1 0 0 5 3) 7 gives cell-bank-row 6 1 2)
     -- P2
     ∷ (check (plain 4 2 3 2 6 0 1 0) gives accepted 6 6)
     ∷ (check (plain 4 2 3 2 5 0 1 0) gives refused 1)
@@ -85,14 +85,17 @@ sheet =
     ∷ (waiting (merging 1 0 1 1 1 3 1 0) (read 0 ∷ Idle ∷ Idle ∷ read 0 ∷ []) (0 ∷ 1 ∷ 2 ∷ 3 ∷ []) gives told (1 ∷ 0 ∷ 0 ∷ 1 ∷ []))
     -- P7: the memory holds 6 after cycle 4 and never 5
     ∷ (memory (merging 1 0 1 1 1 2 1 0) (write 0 5 ∷ write 0 6 ∷ Idle ∷ Idle ∷ Idle ∷ []) (0 ∷ 1 ∷ 2 ∷ 3 ∷ 4 ∷ []) gives held (0 ∷ 0 ∷ 0 ∷ 0 ∷ 6 ∷ []))
-    -- P8
+    -- P8: the two writes are in two banks, and each finds its place
     ∷ (run (merging 2 1 2 1 2 2 1 0) (write 0 1 ∷ write 2 2 ∷ Idle ∷ Idle ∷ Idle ∷ Idle ∷ []) gives
+    replied ((0, None) ∷ (0, None) ∷ (0, None) ∷ (0, None) ∷ (0, None) ∷ (0, None) ∷ []))
+    -- P8 with two writes to one bank: the second finds none
+    ∷ (run (merging 2 1 2 1 2 2 1 0) (write 0 1 ∷ write 1 2 ∷ Idle ∷ Idle ∷ Idle ∷ Idle ∷ []) gives
     replied ((0, None) ∷ (0, None) ∷ (0, None) ∷ (6, None) ∷ (7, None) ∷ (7, None) ∷ []))
     -- P9
     ∷ (run (merging 2 1 2 1 2 3 1 0) (write 1 10 ∷ read 1 ∷ read 2 ∷ Idle ∷ read 2 ∷ read 3 ∷ read 1 ∷ Idle ∷ []) gives
-    replied ((0, None) ∷ (0, None) ∷ (0, None) ∷ (0, Word 10) ∷ (0, Word 0) ∷ (0, None) ∷ (5, Word 0) ∷ (0, Word 0) ∷ []))
+    replied ((0, None) ∷ (0, None) ∷ (0, None) ∷ (0, Word 10) ∷ (0, Word 0) ∷ (0, None) ∷ (0, Word 0) ∷ (0, Word 0) ∷ []))
     ∷ []
 
--- every row gives what the document expects
+-- every row gives what is expected
 abbrev pub Sheet : Type 0
 Sheet = map (λ (r : Example). outcomeOf (r .question)) sheet ≡ map (λ (r : Example). r .expected) sheet

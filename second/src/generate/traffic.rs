@@ -11,7 +11,7 @@ const MOST_OPERATIONS: usize = 4000;
 enum Pattern {
     /// A few addresses, again and again.
     Hot,
-    /// Steps of B addresses.
+    /// Steps of B or N/B addresses, or from each cell to the next, which meets one bank longest.
     Stride,
     /// Any addresses of one bank.
     OneBank,
@@ -121,12 +121,24 @@ impl Traffic<'_> {
     }
 
     fn stride(&mut self) {
-        let step = self.configuration.banks() as u32;
+        let step = self.random.pick(&[
+            self.configuration.banks() as u32,
+            self.configuration.words_in_bank(),
+            self.cell_step(),
+        ]);
         let mut address = self.any_address();
         for _ in 0..self.span() {
             self.touch(address);
             address = Address((address.0 + step) % self.configuration.words());
         }
+    }
+
+    /// The step from the address of each cell to that of the next: the inverse of u.
+    fn cell_step(&self) -> u32 {
+        let Configuration { u, .. } = *self.configuration;
+        let words = self.configuration.words();
+        let inverse = (1..words).find(|step| step.wrapping_mul(u) % words == 1);
+        inverse.expect("u is odd")
     }
 
     fn one_bank(&mut self) {

@@ -1,4 +1,4 @@
-//! P1 to P9 of document 01.
+//! P1 to P9 of document 01, with the bank by the top bits of the cell.
 
 use crate::said::{answers, configuration, listing, operations, setup};
 use second::map::{Address, Cell};
@@ -10,7 +10,7 @@ fn p1_address_to_cell_bank_and_row() {
     let configuration = configuration("mode 0 a 4 s 2 m 1 k 1 delta 0 c 0 u 5 v 3");
     let cell = configuration.cell(Address(7));
     assert_eq!(cell, Cell(6));
-    assert_eq!(configuration.bank_and_row(cell), (2, 1));
+    assert_eq!(configuration.bank_and_row(cell), (1, 2));
 }
 
 #[test]
@@ -69,10 +69,20 @@ fn p7_a_replaced_write_never_reaches_the_memory() {
 }
 
 #[test]
-fn p8_a_retiring_write_without_a_place_stops_the_port() {
+fn p8_retiring_writes_of_two_banks_each_have_a_place() {
+    let operations = "write 0 10, write 2 20, idle, idle, idle, read 0";
+    assert_eq!(p8_answers(operations), [0, 0, 0, 0, 0, 0]);
+}
+
+#[test]
+fn p8_stop_a_retiring_write_without_a_place_stops_the_port() {
+    let operations = "write 0 10, write 1 20, idle, idle, idle, read 0";
+    assert_eq!(p8_answers(operations), [0, 0, 0, 6, 7, 7]);
+}
+
+fn p8_answers(said: &str) -> Vec<u8> {
     let configuration = configuration("mode 1 a 2 s 1 m 2 k 1 delta 2 c 2 u 1 v 0");
-    let operations = operations("write 0 10, write 2 20, idle, idle, idle, read 0");
-    assert_eq!(answers(configuration, &operations), [0, 0, 0, 6, 7, 7]);
+    answers(configuration, &operations(said))
 }
 
 #[test]
@@ -88,7 +98,7 @@ fn p9_the_whole_output() {
 3 0 10
 4 0 0
 5 0 -
-6 5 0
+6 0 0
 7 0 0
 ";
     assert_eq!(listing(Some(&setup), &operations.unwrap()), due);

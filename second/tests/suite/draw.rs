@@ -95,7 +95,7 @@ fn a_line_is_dashed_until_the_word_leaves() {
     assert_eq!(reads(&picture(SETUP, "read 1, idle")), (1, 1));
     assert_eq!(reads(&picture(SETUP, "read 1, idle, idle")), (1, 0));
     // The second read is dropped, the address of the third is beyond memory.
-    assert_eq!(reads(&picture(SETUP, "read 0, read 2, read 4")), (1, 1));
+    assert_eq!(reads(&picture(SETUP, "read 0, read 1, read 4")), (1, 1));
 }
 
 #[test]

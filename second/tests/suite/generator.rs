@@ -3,14 +3,16 @@
 use crate::said::listing;
 use second::generate;
 use second::history::Operation;
+use second::map::Address;
 use second::records::{read_operation, read_setup, OPERATION_LENGTH};
-use second::setup::Mode;
+use second::setup::{Configuration, Mode};
 use std::collections::BTreeMap;
 
 const RUNS: u64 = 500;
 
-/// What a share of the runs must reach, and that share in percent.
-const DUE: [(&str, u64); 15] = [
+/// What a share of the runs must reach, and that share in percent. The walks come by chance too, or as one another, but
+/// then in fewer runs.
+const DUE: [(&str, u64); 18] = [
     ("answer 0", 75),
     ("answer 4", 15),
     ("answer 5", 35),
@@ -26,7 +28,13 @@ const DUE: [(&str, u64); 15] = [
     ("a merging 5", 5),
     ("a merging run past 3 C", 15),
     ("a 9 after a 7", 1),
+    ("a walk in steps of B", 8),
+    ("a walk in steps of N/B", 6),
+    ("a walk over cells", 10),
 ];
+
+/// How many operations in a row make a walk.
+const WALK: usize = 8;
 
 #[test]
 fn the_runs_reach_every_answer() {
@@ -88,6 +96,24 @@ fn corners(seed: u64) -> Vec<&'static str> {
             "a merging run past 3 C",
             merging && passes_3_c(&run, &words),
         ),
+        (
+            "a walk in steps of B",
+            walks(&run, |it, from, to| {
+                goes(it, from.0, to.0, it.banks() as u32)
+            }),
+        ),
+        (
+            "a walk in steps of N/B",
+            walks(&run, |it, from, to| {
+                goes(it, from.0, to.0, it.words_in_bank())
+            }),
+        ),
+        (
+            "a walk over cells",
+            walks(&run, |it, from, to| {
+                goes(it, it.cell(from).0, it.cell(to).0, 1)
+            }),
+        ),
     ];
     let reached = reached.into_iter().filter(|&(_, is_reached)| is_reached);
     reached.map(|(corner, _)| corner).collect()
@@ -128,7 +154,30 @@ fn passes_3_c(run: &generate::Run, words: &[Vec<&str>]) -> bool {
     configuration(run).map_or(false, |it| taken(run, words).len() > 3 * it.c)
 }
 
-fn configuration(run: &generate::Run) -> Option<second::setup::Configuration> {
+/// Whether operations in a row, as many as make a walk, go on from each address to the next.
+fn walks(run: &generate::Run, goes: fn(&Configuration, Address, Address) -> bool) -> bool {
+    let configuration = match configuration(run) {
+        Some(configuration) => configuration,
+        None => return false,
+    };
+    let records = run.operations.chunks(OPERATION_LENGTH).map(read_operation);
+    let addresses: Vec<Option<Address>> = records.map(|it| it?.address()).collect();
+    let is_walk = |walk: &[Option<Address>]| {
+        walk.windows(2).all(|two| match *two {
+            [Some(from), Some(to)] => goes(&configuration, from, to),
+            _ => false,
+        })
+    };
+    addresses.windows(WALK).any(is_walk)
+}
+
+/// Whether one number is so many steps behind the other on the circle of N, and the steps do not end where they begin.
+fn goes(configuration: &Configuration, from: u32, to: u32, step: u32) -> bool {
+    let around = |number: u32| number % configuration.words();
+    around(to.wrapping_sub(from)) == around(step) && around(step) != 0
+}
+
+fn configuration(run: &generate::Run) -> Option<Configuration> {
     read_setup(run.setup.as_deref()?)?.checked()
 }
 

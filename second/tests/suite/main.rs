@@ -7,6 +7,7 @@ mod demands;
 mod draw;
 mod examples;
 mod generator;
+mod map;
 mod one_cycle;
 mod records;
 mod said;

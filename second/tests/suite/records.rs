@@ -146,7 +146,7 @@ fn a_bad_record_is_seen_after_a_stop() {
     let mut operations = Vec::new();
     for operation in [
         Operation::Write(Address(0), 10),
-        Operation::Write(Address(2), 20),
+        Operation::Write(Address(1), 20),
         Operation::Idle,
         Operation::Idle,
         Operation::Read(Address(4)),

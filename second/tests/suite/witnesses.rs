@@ -170,7 +170,7 @@ fn questions(machine: &Machine) -> impl Iterator<Item = String> + '_ {
     })
 }
 
-/// Where each address lies. With u 1 and v 0 the cells are the addresses, so each of a cell's names is told too.
+/// Where each address lies, and the bank and the row of each cell.
 fn places(configuration: &Configuration) -> impl Iterator<Item = String> + '_ {
     (0..configuration.words()).flat_map(move |address| {
         let cell = configuration.cell(Address(address));
@@ -178,6 +178,8 @@ fn places(configuration: &Configuration) -> impl Iterator<Item = String> + '_ {
         let Cell(number) = cell;
         [
             format!("address {address} has cell {number}"),
+            format!("cell {number} has bank {bank}"),
+            format!("cell {number} has row {row}"),
             format!("bank {bank} and row {row} are cell {number}"),
         ]
     })
