@@ -7,7 +7,7 @@
  *             its name
  *   MODE      plain or merging
  *   C, M      rows of the table, and cycles between two services of a bank; the delay is C, so K*M is at most C
- *   WORKLOAD  uniform, hot, stride or idle (see `record`)
+ *   WORKLOAD  uniform, hot, stride, far, cells or idle (see `record`)
  *   COUNT     how many calls are measured, at most 4096
  *   S, K      bank bits (5) and places in each buffer (8)
  *
@@ -34,7 +34,8 @@ enum {
     ANSWERS = 10
 };
 
-/* The numbers of the address map: u is odd, and far from a power of two. */
+/* The numbers of the address map. This u is no good choice for walks (u^-1 is 3, and bench/spread finds better ones); it stays,
+ * so that rows can be compared with earlier ones. */
 static const uint32_t U = 2731, V = 1234;
 
 /* ---- What is lent -------------------------------------------------------------------------------------------------------*/
@@ -143,27 +144,52 @@ static uint32_t draw(void)
     return drawn;
 }
 
+/* The number that u makes 1 of, modulo N: an odd u has one. */
+static uint32_t inverse(uint32_t u)
+{
+    uint32_t found = 1;
+
+    while (u * found % WORDS != 1)
+        found += 2;
+    return found;
+}
+
+/* How far the next address of a workload is from the last: 0 where it is no walk. */
+static uint32_t step_of(const char *workload, uint32_t banks)
+{
+    if (!strcmp(workload, "stride"))
+        return banks;
+    if (!strcmp(workload, "far"))
+        return WORDS / banks;
+    if (!strcmp(workload, "cells"))
+        return inverse(U);
+    return 0;
+}
+
 /* Two of five operations read, two write and one is idle: a port in use four cycles out of five, with both kinds alike.
  *
  * uniform  any address. The lookups of merging mode find few rows and go far; the banks are loaded alike, and lightly.
  * hot      one address. Lookups end at the first rows; in plain mode one buffer is always full and most are dropped.
- * stride   addresses B apart. Their cells are all congruent modulo B whatever odd u is, so one bank gets every operation,
- *          over N/B addresses: the map does not help, and what merging cannot take together is dropped or stops the run.
+ * stride   addresses B apart, N/B of them: the walk over a table of entries of B words.
+ * far      addresses N/B apart, B of them. Each is in a bank of its own whatever odd u is: the banks have their turn one after
+ *          the other.
+ * cells    addresses whose cells are next to one another: u^-1 apart. N/B of them in a row are in one bank, the most that a
+ *          walk can have there, and what merging cannot take together is dropped or stops the run.
  * idle     nothing at all: a table of empty rows and empty buffers. */
 static int record(const char *workload, uint32_t banks)
 {
-    const int uniform = !strcmp(workload, "uniform"), stride = !strcmp(workload, "stride"), idle = !strcmp(workload, "idle");
+    const int uniform = !strcmp(workload, "uniform"), idle = !strcmp(workload, "idle");
+    const uint32_t step = step_of(workload, banks);
     uint32_t next = 0;
 
-    if (!uniform && !stride && !idle && strcmp(workload, "hot"))
+    if (!uniform && !step && !idle && strcmp(workload, "hot"))
         return 0;
     for (size_t i = 0; i < OPERATIONS; i++) {
         const uint32_t kind = (draw() >> 8) % 5, any = (draw() >> 8) % WORDS, word = draw();
         operations[i] = (ridkostan_operation){ RIDKOSTAN_IDLE, 0, 0 };
         if (kind == 4 || idle)
             continue;
-        if (stride)
-            next = (next + banks) % WORDS;
+        next = (next + step) % WORDS;
         operations[i].address = uniform ? any : next;
         operations[i].kind = kind < 2 ? RIDKOSTAN_READ : RIDKOSTAN_WRITE;
         operations[i].word = kind < 2 ? 0 : word;
