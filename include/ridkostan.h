@@ -59,12 +59,12 @@ enum {
 typedef struct ridkostan_setup {
     uint8_t mode;   /* RIDKOSTAN_PLAIN or RIDKOSTAN_MERGING */
     uint8_t a;      /* address bits: 1 to 20 */
-    uint8_t s;      /* bank bits: 0 to 6, at most a */
+    uint8_t s;      /* bank bits: 0 to 6, at most a; the top s of a cell's a bits name its bank */
     uint8_t m;      /* cycles between two services of one bank: 1 to 64 */
     uint16_t k;     /* places in each request buffer: 1 to 128 */
     uint16_t delta; /* the fixed delay: k*m to 4096; 0 stands for k*m */
     uint16_t c;     /* rows in the reservation table: delta to 4096; 0 stands for delta */
-    uint32_t u;     /* the address map, cell = (u*address + v) mod N: below N, odd */
+    uint32_t u;     /* the address map, cell = (u*address + v) mod N: below N, odd; how to choose it: docs/PERFORMANCE.md */
     uint32_t v;     /* below N */
 } ridkostan_setup;  /* 20 bytes; the two between c and u are padding, which no call looks at and none is bound to set */
 

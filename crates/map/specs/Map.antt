@@ -17,7 +17,7 @@ banksOf map = 2 ^ (map .s)
 unfoldable pub cellOf : Map → Address → Cell
 cellOf map x = record { 0 = (map .u * x .0 + map .v) % wordsOf map }
 
--- the rows inside one bank: 2^(a − s) of them
+-- 2^(a − s) rows inside each bank
 abbrev pub rowsOf : Map → ℕ
 rowsOf map = 2 ^ (map .a - map .s)
 
@@ -65,7 +65,7 @@ OneToOne = (map : Map) (x y : Address) → Ranges map → x .0 < wordsOf map →
 abbrev pub WithinMemory : Type 0
 WithinMemory = (map : Map) (x : Address) → Ranges map → (cellOf map x .0 < wordsOf map) × (bankOf map (cellOf map x) < banksOf map)
 
--- bank and row together name the cell, for each of the N, and the cell names both, for each of the B and each row inside it
+-- bank and row of each of the N cells together name it, and the cell of a row of a bank names both
 abbrev pub SplitJoins : Type 0
 SplitJoins = (map : Map) (x : Cell) → x .0 < wordsOf map → joinOf map (bankOf map x) (rowOf map x) ≡ x
 
