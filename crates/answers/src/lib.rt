@@ -1,4 +1,5 @@
 // Document 01's answer numbers, written once. specs/Answers.antt has the same table for the contracts.
+#![tactic(auto)]
 
 pub const DONE: u32 = 0;
 

@@ -1,5 +1,7 @@
 // What follows service in a cycle, delivery, retirement and arrival: what is looked at and planned lands. Entries are placed, and
 // the row is put.
+#![tactic(auto)]
+
 ghost use Rattle.std.specs.Prelude.{◌≡◌, ◌<◌, length};
 ghost use Rattle.setup.specs.Setup.{Ranges};
 ghost use Rattle.model.specs.Lent.{buffers_in};

@@ -1,4 +1,6 @@
 // The request buffers: each bank's buffer is handled through its own part of the lent entry room.
+#![tactic(auto)]
+
 ghost use Rattle.std.specs.Prelude.{◌≡◌, ◌+◌, ◌*◌, ◌≤◌, ◌<◌, eqb, length};
 ghost use Rattle.setup.specs.Setup.{map_of};
 ghost use Rattle.map.specs.Map.{bank_of};

@@ -1,4 +1,6 @@
 // The controller: a fresh start, a cycle and a question, over memory that the caller lends.
+#![tactic(auto)]
+
 ghost use Rattle.std.specs.Prelude.{◌≡◌};
 ghost use Rattle.model.specs.Lent.{lent};
 ghost use Rattle.model.specs.Calls.{fresh_of, cycle_of, waiting_of};

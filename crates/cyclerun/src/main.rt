@@ -1,4 +1,6 @@
 // Reads a setup from the file `setup` and operations from standard input, and prints a line per record.
+#![tactic(auto)]
+
 ghost use Rattle.std.specs.Prelude.{◌≡◌, ◌+◌, ◌*◌, ◌^◌, ◌≤◌, ◌<◌, length, take};
 ghost use Rattle.io.specs.Counts.{IsPrefixLen};
 ghost use Rattle.model.specs.Lent.{lent};
@@ -23,7 +25,7 @@ const OUTPUT_BYTES: usize = listing::LINE_MOST * PART;
 const MOST_PARTS: u64 = 1 << 53;
 
 // A part of the input that was run.
-#[derive(Drop)]
+#[derive(Clone, Copy)]
 struct Part {
     // The run behind it.
     run: Run,

@@ -1,4 +1,6 @@
 // Numbers in decimal: their digits, put into a room two at a time.
+#![tactic(auto)]
+
 ghost use Rattle.std.specs.Prelude.{◌≡◌, [], ◌∷◌, ◌+◌, ◌^◌, ◌≤◌, ◌<◌, length};
 ghost use Rattle.decimal.specs.Decimal.{ten, digit, decimal, number_most, stored, digits, pair, hundred, pair_table, short_most};
 

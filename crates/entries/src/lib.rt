@@ -1,4 +1,6 @@
 // The range check of the request buffers: the heads of all, and the entries that wait.
+#![tactic(auto)]
+
 ghost use Rattle.std.specs.Prelude.{◌≡◌, true, ◌&&◌, ◌+◌, ◌-◌, ◌*◌, ◌/◌, ◌≤◌, ◌<◌, ltb, length};
 ghost use Rattle.setup.specs.Setup.{Ranges, words_of, banks_of};
 ghost use Rattle.model.specs.Lent.{entry_numbers, head_numbers, buffers_in, entry_at, count_of};

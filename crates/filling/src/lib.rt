@@ -1,5 +1,7 @@
 // Filling: the word that service brings goes to every row that lacks it.
 // A look at a whole block of the links spares the rows of one that does not name the row.
+#![tactic(auto)]
+
 ghost use Rattle.std.specs.Prelude.{◌≡◌, ◌+◌, ◌-◌, ◌*◌, ◌≤◌, ◌<◌, length};
 ghost use Rattle.flat.specs.Flat.{block};
 ghost use Rattle.model.specs.Lent.{row_numbers};

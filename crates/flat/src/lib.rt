@@ -1,4 +1,6 @@
 // Flat looks at a part of a lent room: loops with no way out, which become vector instructions. Each call says all that it answers.
+#![tactic(auto)]
+
 ghost use Rattle.std.specs.Prelude.{◌≡◌, ◌+◌, ◌-◌, ◌≤◌, ◌<◌, length};
 ghost use Rattle.flat.specs.Flat.{block, wide, one_if, times, all_below, UpTo};
 

@@ -1,4 +1,6 @@
 // What C passes and gets: structs of numbers, and the functions between them and the controller's types.
+#![tactic(auto)]
+
 ghost use Rattle.std.specs.Prelude.{◌≡◌};
 ghost use Rattle.forms.specs.Forms.{no_setup, checked_out, lent_out, no_lengths, mark_ok, state_in, mark_out, state_out, started_out, delivery_out, word_out, reply_out, cycled_out, refused_by, told_out, operation_in, asked_of, operation_out, setup_read, operation_read};
 
@@ -17,7 +19,7 @@ const STOPPED: u32 = 1;
 
 // A setup, or refusal 1 and a setup of zeros.
 #[repr(C)]
-#[derive(Drop)]
+#[derive(Clone, Copy)]
 pub struct Checked {
     pub answer: u32,
     pub setup: Setup,
@@ -25,7 +27,7 @@ pub struct Checked {
 
 // How many numbers each lent room has.
 #[repr(C)]
-#[derive(Drop)]
+#[derive(Clone, Copy)]
 pub struct Lent {
     pub answer: u32,
     pub memory: u32,
@@ -36,7 +38,7 @@ pub struct Lent {
 
 // The state: the stop mark is a number.
 #[repr(C)]
-#[derive(Drop)]
+#[derive(Clone, Copy)]
 pub struct State {
     pub stamp: u32,
     pub turn: u32,
@@ -46,7 +48,7 @@ pub struct State {
 
 // What a fresh start returns.
 #[repr(C)]
-#[derive(Drop)]
+#[derive(Clone, Copy)]
 pub struct Started {
     pub answer: u32,
     pub state: State,
@@ -54,7 +56,7 @@ pub struct Started {
 
 // An operation: the three numbers of its record.
 #[repr(C)]
-#[derive(Drop)]
+#[derive(Clone, Copy)]
 pub struct Operation {
     pub kind: u32,
     pub address: u32,
@@ -63,7 +65,7 @@ pub struct Operation {
 
 // A reply: the delivery is a number, with the word that leaves.
 #[repr(C)]
-#[derive(Drop)]
+#[derive(Clone, Copy)]
 pub struct Reply {
     pub answer: u32,
     pub delivery: u32,
@@ -73,7 +75,7 @@ pub struct Reply {
 
 // What a cycle returns.
 #[repr(C)]
-#[derive(Drop)]
+#[derive(Clone, Copy)]
 pub struct Cycled {
     pub state: State,
     pub reply: Reply,
@@ -81,7 +83,7 @@ pub struct Cycled {
 
 // What a question returns.
 #[repr(C)]
-#[derive(Drop)]
+#[derive(Clone, Copy)]
 pub struct Told {
     pub answer: u32,
     pub count: u32,
@@ -89,14 +91,14 @@ pub struct Told {
 
 // What an operation record holds.
 #[repr(C)]
-#[derive(Drop)]
+#[derive(Clone, Copy)]
 pub struct Recorded {
     pub answer: u32,
     pub operation: Operation,
 }
 
 // What C asks of a cycle: an operation that is none, a mark out of range, or a cycle of the controller.
-#[derive(Drop)]
+#[derive(Clone, Copy)]
 pub enum Asked {
     NoOperation,
     BadMark,

@@ -1,4 +1,6 @@
 // The heads of the request buffers: of each bank's buffer the place of the oldest entry, and the count.
+#![tactic(auto)]
+
 ghost use Rattle.std.specs.Prelude.{◌≡◌, true, ◌+◌, ◌-◌, ◌*◌, ◌≤◌, ◌<◌, length};
 ghost use Rattle.model.specs.Lent.{head_numbers, oldest_of, count_of, put_head};
 ghost use Rattle.model.specs.Cycle.{popped};

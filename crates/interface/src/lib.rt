@@ -1,4 +1,6 @@
 // The calls that C makes (include/ridkostan.h): numbers in, the controller or the records asked, numbers out.
+#![tactic(auto)]
+
 ghost use Rattle.std.specs.Prelude.{◌≡◌};
 ghost use Rattle.setup.specs.Setup.{checked_of};
 ghost use Rattle.model.specs.Lent.{lent};

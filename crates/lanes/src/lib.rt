@@ -1,4 +1,6 @@
 // Flat looks at numbers that stand by twos or by fours: whether each is below its own bound.
+#![tactic(auto)]
+
 ghost use Rattle.std.specs.Prelude.{◌≡◌, ◌+◌, ◌-◌, ◌*◌, ◌≤◌, ◌<◌, length};
 ghost use Rattle.lanes.specs.Lanes.{round, pairs_below, pairs_look, fours_below, Apart, TwoTogether, ThreeTogether};
 
@@ -21,7 +23,7 @@ fn round_together(part: &[u32], at: usize, step: usize) -> u32
     o
 }
 
-#[derive(Drop)]
+#[derive(Clone, Copy)]
 struct Pair {
     first: u32,
     second: u32,
@@ -68,7 +70,7 @@ fn each_pair_below(part: &[u32], n: usize, a: u32, b: u32) -> bool
 }
 
 // A look at pairs: whether every first number is below a and every second below b, or even 0.
-#[derive(Drop)]
+#[derive(Clone, Copy)]
 pub struct Look {
     pub below: bool,
     pub none: bool,
@@ -91,7 +93,7 @@ pub fn pairs(part: &[u32], n: usize, a: u32, b: u32) -> Look
     }
 }
 
-#[derive(Drop)]
+#[derive(Clone, Copy)]
 struct Four {
     first: u32,
     second: u32,

@@ -1,4 +1,6 @@
 // The text that `cyclerun` prints: a line per record.
+#![tactic(auto)]
+
 ghost use Rattle.std.specs.Prelude.{◌≡◌, ◌+◌, ◌≤◌, length};
 ghost use Rattle.decimal.specs.Decimal.{number_most, word_most, stored, pair_table};
 ghost use Rattle.listing.specs.Listing.{delivery_text, field, line_of, line_most};

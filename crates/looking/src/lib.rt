@@ -1,4 +1,6 @@
 // What a cycle looks at in the rows as service left them, and what it plans by that. Nothing changes.
+#![tactic(auto)]
+
 ghost use Rattle.std.specs.Prelude.{◌≡◌, ◌<◌, length};
 ghost use Rattle.setup.specs.Setup.{Ranges};
 ghost use Rattle.model.specs.Range.{lengths_of};

@@ -1,5 +1,7 @@
 // Lookups in the reservation table: the newest live row of an address, and the newest live write to it.
 // A look at a whole block of the addresses spares the rows of one that does not have the address.
+#![tactic(auto)]
+
 ghost use Rattle.std.specs.Prelude.{◌≡◌, false, ◌+◌, ◌-◌, ◌*◌, ◌≤◌, ◌<◌, length};
 ghost use Rattle.flat.specs.Flat.{block};
 ghost use Rattle.model.specs.Lent.{row_numbers, row_at};

@@ -1,9 +1,11 @@
 // The address map: from an address to its cell, and from a cell to its bank and the row inside it.
+#![tactic(auto)]
+
 ghost use Rattle.std.specs.Prelude.{◌≡◌, ◌^◌, ◌-◌, ◌<◌};
 ghost use Rattle.map.specs.Map.{words_of, banks_of, cell_of, bank_of, row_of, rows_of, join_of, Sizes};
 
 // The four numbers of a setup that the map takes.
-#[derive(Drop)]
+#[derive(Clone, Copy)]
 pub struct Map {
     // Address bits: N = 2^a words.
     pub a: u8,
@@ -15,11 +17,11 @@ pub struct Map {
 }
 
 // What the line card sends.
-#[derive(Drop)]
+#[derive(Clone, Copy)]
 pub struct Address(pub u32);
 
 // What the permutation makes of it: the place in the lent memory.
-#[derive(Drop)]
+#[derive(Clone, Copy)]
 pub struct Cell(pub u32);
 
 // 2^n.

@@ -1,10 +1,12 @@
 // What the machine keeps: its state, its rows, its entries and the heads of its buffers; and what its calls return.
+#![tactic(auto)]
+
 use map::{Address, Cell};
 use port::Reply;
 use setup::Setup;
 
 // The state goes in and comes back by value; everything else is lent.
-#[derive(Drop)]
+#[derive(Clone, Copy)]
 pub struct State {
     // The cycle number modulo 2^32.
     pub stamp: u32,
@@ -16,7 +18,7 @@ pub struct State {
 }
 
 // How many numbers each lent slice has.
-#[derive(Drop)]
+#[derive(Clone, Copy)]
 pub struct Lengths {
     pub memory: u32,
     pub rows: u32,
@@ -25,7 +27,7 @@ pub struct Lengths {
 }
 
 // A row of the reservation table: a number of each column of the lent row room.
-#[derive(Drop)]
+#[derive(Clone, Copy)]
 pub struct Row {
     pub kind: u32,
     pub address: Address,
@@ -57,7 +59,7 @@ impl Row {
 }
 
 // An entry of a request buffer: its numbers stand in the lent entry room one after another.
-#[derive(Drop)]
+#[derive(Clone, Copy)]
 pub struct Entry {
     pub kind: u32,
     pub row: u32,
@@ -81,7 +83,7 @@ impl Entry {
 }
 
 // The head of a request buffer: its numbers stand in the lent head room one after another.
-#[derive(Drop)]
+#[derive(Clone, Copy)]
 pub struct Head {
     // The place of the oldest entry.
     pub oldest: u32,
@@ -96,49 +98,49 @@ impl Head {
 }
 
 // What a lookup in the table answers: a row's place, or that nothing is live.
-#[derive(Drop)]
+#[derive(Clone, Copy)]
 pub enum Found {
     At(usize),
     Nothing,
 }
 
 // What retirement or arrival places: no entry, or one.
-#[derive(Drop)]
+#[derive(Clone, Copy)]
 pub enum Placing {
     NoEntry,
     OneEntry(Entry),
 }
 
 // What an operation is to do at its arrival: the row that it fills, and what it places.
-#[derive(Drop)]
+#[derive(Clone, Copy)]
 pub struct Plan {
     pub row: Row,
     pub placing: Placing,
 }
 
 // What 1, 2 and 3 look at stands, under the setup with its defaults in; or the first of them that refuses.
-#[derive(Drop)]
+#[derive(Clone, Copy)]
 pub enum Standing {
     Sound(Setup),
     Refusal(u32),
 }
 
 // What a cycle returns.
-#[derive(Drop)]
+#[derive(Clone, Copy)]
 pub struct Cycled {
     pub state: State,
     pub reply: Reply,
 }
 
 // What a fresh start returns.
-#[derive(Drop)]
+#[derive(Clone, Copy)]
 pub struct Started {
     pub answer: u32,
     pub state: State,
 }
 
 // What a question returns: how many entries wait at one bank.
-#[derive(Drop)]
+#[derive(Clone, Copy)]
 pub struct Waiting {
     pub answer: u32,
     pub count: u32,

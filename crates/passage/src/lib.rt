@@ -1,4 +1,6 @@
 // A cycle that is not refused: service, then delivery, retirement and arrival.
+#![tactic(auto)]
+
 ghost use Rattle.std.specs.Prelude.{◌≡◌};
 ghost use Rattle.model.specs.Lent.{lent};
 ghost use Rattle.model.specs.Range.{Ready};

@@ -1,4 +1,6 @@
 // What a cycle does, planned by values alone: what a row delivers, what is placed, the row that is filled, what the call returns.
+#![tactic(auto)]
+
 ghost use Rattle.std.specs.Prelude.{◌≡◌, ◌<◌};
 ghost use Rattle.answers.specs.Answers.{done, dropped, stopping};
 ghost use Rattle.choice.specs.Choice.{pick};

@@ -1,8 +1,10 @@
 // What goes in and out of the port in one cycle.
+#![tactic(auto)]
+
 use map::Address;
 
 // What arrives: nothing, a read of an address, or a write of a word to an address.
-#[derive(Drop)]
+#[derive(Clone, Copy)]
 pub enum Operation {
     Idle,
     Read(Address),
@@ -10,7 +12,7 @@ pub enum Operation {
 }
 
 // What leaves: nothing, a read that still lacks its word, or a word.
-#[derive(Drop)]
+#[derive(Clone, Copy)]
 pub enum Delivery {
     None,
     Unready,
@@ -18,7 +20,7 @@ pub enum Delivery {
 }
 
 // What a cycle's call returns: the answer number, what leaves, and the stamp of this cycle.
-#[derive(Drop)]
+#[derive(Clone, Copy)]
 pub struct Reply {
     pub answer: u32,
     pub delivery: Delivery,

@@ -1,6 +1,6 @@
 -- The records of specs/Examples.antt, computed. Assumes nothing.
 use mathlib.Core.Path.{refl}
-use Rattle.bytes.specs.Bytes.{bytes_of}
+use Rattle.octets.specs.Bytes.{bytes_of}
 use Rattle.records.specs.Records.{operation_bytes, operation_written}
 use Rattle.records.specs.Examples.{OperationLaidOut}
 

@@ -11,8 +11,8 @@ use Rattle.answers.specs.Answers.{done, bad_length}
 use Rattle.map.specs.declared.Address.{Address}
 use Rattle.port.specs.declared.Operation.{Operation}
 use Rattle.port.specs.declared.Operation.TheVariants.{Idle, Read, Write}
-use Rattle.bytes.specs.Bytes.{byte_at, number_at, bytes_of}
-use Rattle.bytes.proofs.Numbers.{filled}
+use Rattle.octets.specs.Bytes.{byte_at, number_at, bytes_of}
+use Rattle.octets.proofs.Numbers.{filled}
 use Rattle.records.specs.declared.OperationRecord.{OperationRecord}
 use Rattle.records.specs.declared.OperationRecord.TheVariants.{Bad}
 use Rattle.records.specs.Records.{operation_size, idle_record_kind, read_record_kind, write_record_kind, operation_zeros, good_if, operation_from, operation_of, operation_layout, operation_bytes, operation_written}

@@ -13,8 +13,8 @@ use Rattle.choice.specs.Choice.{pick}
 use Rattle.setup.proofs.Ranges.{and_l, and_r}
 use Rattle.port.specs.declared.Operation.{Operation}
 use Rattle.port.specs.declared.Operation.TheVariants.{Idle, Read, Write}
-use Rattle.bytes.specs.Bytes.{byte_at, Bytes, number_at, bytes_of}
-use Rattle.bytes.proofs.Numbers.{number_bytes, bytes_number, bytes_byte}
+use Rattle.octets.specs.Bytes.{byte_at, Bytes, number_at, bytes_of}
+use Rattle.octets.proofs.Numbers.{number_bytes, bytes_number, bytes_byte}
 use Rattle.records.specs.declared.OperationRecord.{OperationRecord}
 use Rattle.records.specs.Records.{operation_size, idle_record_kind, read_record_kind, write_record_kind, operation_zeros, good_if, operation_from, operation_of, operation_answer, operation_or, operation_layout, operation_bytes, operation_written}
 use Rattle.records.specs.RoundTrip.{FitsWord, Fits, OperationReadAsWritten, OperationWrittenAsRead, OperationAnswered}

@@ -4,7 +4,7 @@ use Rattle.answers.specs.Answers.{done, bad_length, bad_record}
 use Rattle.choice.specs.Choice.{pick}
 use Rattle.port.specs.declared.Operation.{Operation}
 use Rattle.port.specs.declared.Operation.TheVariants.{Idle, Read, Write}
-use Rattle.bytes.specs.Bytes.{byte_at, number_at, bytes_of, zero_at, zeros}
+use Rattle.octets.specs.Bytes.{byte_at, number_at, bytes_of, zero_at, zeros}
 use Rattle.records.specs.declared.OperationRecord.{OperationRecord}
 
 -- an operation has 12 bytes

@@ -3,7 +3,7 @@ use Rattle.std.specs.Prelude.{ℕ, ◌^◌, ◌<◌, ◌≡◌, ◌⊎◌, List,
 use Rattle.answers.specs.Answers.{done, bad_record}
 use Rattle.port.specs.declared.Operation.{Operation}
 use Rattle.port.specs.declared.Operation.TheVariants.{Idle, Read, Write}
-use Rattle.bytes.specs.Bytes.{Bytes}
+use Rattle.octets.specs.Bytes.{Bytes}
 use Rattle.records.specs.Records.{operation_size, operation_of, operation_answer, operation_or, operation_written}
 
 -- words are 32 bits, and so are addresses

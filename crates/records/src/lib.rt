@@ -1,15 +1,17 @@
 // Operation records, 12 bytes each: reading and writing them.
+#![tactic(auto)]
+
 ghost use Rattle.std.specs.Prelude.{◌≡◌, ◌<◌, length};
 ghost use Rattle.answers.specs.Answers.{done};
-ghost use Rattle.bytes.specs.Bytes.{base};
+ghost use Rattle.octets.specs.Bytes.{base};
 ghost use Rattle.records.specs.Records.{good_if, operation_size, operation_from, operation_of, operation_layout, operation_written};
 
-use bytes::{four_at, put_first, put_four, wide};
 use map::Address;
+use octets::{four_at, put_first, put_four, wide};
 use port::Operation;
 
 // What an operation record holds; a bad one is answer 9.
-#[derive(Drop)]
+#[derive(Clone, Copy)]
 pub enum OperationRecord {
     Good(Operation),
     Bad,

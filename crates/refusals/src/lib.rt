@@ -1,4 +1,6 @@
 // What the calls look at before they change anything, and what a refusal, a question and a fresh start return.
+#![tactic(auto)]
+
 ghost use Rattle.std.specs.Prelude.{◌≡◌, length};
 ghost use Rattle.setup.specs.Setup.{Ranges};
 ghost use Rattle.model.specs.Lent.{buffers_in, lent};

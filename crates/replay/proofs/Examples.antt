@@ -4,7 +4,7 @@ use Rattle.map.specs.Map.{bank_of, cell_of}
 use Rattle.model.specs.Cycle.{filled_below, carried, served_bank, served_below, scan, placed, retired, arrived, after_service, passed}
 use Rattle.model.specs.Range.{rows_ok, entries_ok, buffers_ok}
 use Rattle.model.specs.Calls.{exact_in, standing_in, offered_of, step_of, cycle_in}
-use Rattle.bytes.specs.Bytes.{number_at, bytes_of}
+use Rattle.octets.specs.Bytes.{number_at, bytes_of}
 use Rattle.records.specs.Records.{operation_from, operation_of, operation_bytes}
 use Rattle.setuprecord.specs.SetupRecord.{setup_fields, allowed, setup_of, setup_bytes}
 use Rattle.decimal.specs.Decimal.{digits_in, decimal}

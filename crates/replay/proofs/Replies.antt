@@ -10,7 +10,7 @@ use Rattle.setup.specs.declared.Setup.{Setup}
 use Rattle.port.specs.declared.Operation.{Operation}
 use Rattle.port.specs.declared.Operation.TheVariants.{Idle, Read, Write}
 use Rattle.model.specs.Runs.{Machine, after, reply_of, replies, after_all}
-use Rattle.bytes.specs.Bytes.{bytes_of}
+use Rattle.octets.specs.Bytes.{bytes_of}
 use Rattle.records.specs.Records.{operation_size, operation_of, operation_bytes}
 use Rattle.records.specs.RoundTrip.{Fits}
 use Rattle.records.specs.declared.OperationRecord.{OperationRecord}

@@ -1,4 +1,6 @@
 // A recorded sequence run through the controller: what `cyclerun` prints for it.
+#![tactic(auto)]
+
 ghost use Rattle.std.specs.Prelude.{◌≡◌, ◌+◌, ◌*◌, ◌^◌, ◌≤◌, ◌<◌, min, length};
 ghost use Rattle.setup.specs.Setup.{Sizes};
 ghost use Rattle.model.specs.Lent.{lent};
@@ -14,14 +16,14 @@ use setup::{Checked, Setup};
 use setuprecord::SetupRecord;
 
 // What the setup file opens: a run under its setup with the defaults in, or the answer that refuses it.
-#[derive(Drop)]
+#[derive(Clone, Copy)]
 pub enum Opening {
     Open(Setup),
     Refused(u32),
 }
 
 // A run between two records.
-#[derive(Drop)]
+#[derive(Clone, Copy)]
 pub struct Run {
     pub state: State,
     // The next record's number.

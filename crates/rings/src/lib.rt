@@ -1,4 +1,6 @@
 // A lent room: zeros in all of it, four numbers at a place of it, and steps that go round.
+#![tactic(auto)]
+
 ghost use Rattle.std.specs.Prelude.{◌≡◌, ◌+◌, ◌*◌, ◌≤◌, ◌<◌, length, replicate};
 ghost use Rattle.rings.specs.Places.{put_four, onward, back};
 

@@ -1,4 +1,6 @@
 // Service: each bank whose turn it is takes the oldest entry of its buffer.
+#![tactic(auto)]
+
 ghost use Rattle.std.specs.Prelude.{◌≡◌, ◌≤◌, ◌<◌, length};
 ghost use Rattle.setup.specs.Setup.{banks_of};
 ghost use Rattle.model.specs.Lent.{lent, write_entry};

@@ -1,11 +1,13 @@
 // A setup's nine numbers, their ranges, and the test of them.
+#![tactic(auto)]
+
 ghost use Rattle.std.specs.Prelude.{◌≡◌};
 ghost use Rattle.setup.specs.Setup.{map_of, words_of, banks_of, least_delta, or_default, with_defaults, sizes_ok, rest_ok, checked_of, Sizes};
 
 use map::Map;
 
 #[repr(C)]
-#[derive(Drop)]
+#[derive(Clone, Copy)]
 pub struct Setup {
     // 0 plain, 1 merging.
     pub mode: u8,
@@ -27,7 +29,7 @@ pub struct Setup {
 }
 
 // The setup with its defaults in, or refusal 1.
-#[derive(Drop)]
+#[derive(Clone, Copy)]
 pub enum Checked {
     Good(Setup),
     Refused,

@@ -1,6 +1,6 @@
 -- The records of specs/Examples.antt, computed. Assumes nothing.
 use mathlib.Core.Path.{refl}
-use Rattle.bytes.specs.Bytes.{number_at, bytes_of}
+use Rattle.octets.specs.Bytes.{number_at, bytes_of}
 use Rattle.setuprecord.specs.SetupRecord.{setup_fields, allowed, setup_of, setup_bytes, setup_written}
 use Rattle.setuprecord.specs.Examples.{SetupLaidOut}
 

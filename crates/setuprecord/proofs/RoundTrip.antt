@@ -15,8 +15,8 @@ use Rattle.choice.specs.Choice.{pick}
 use Rattle.setup.specs.Setup.{with_defaults, in_range, checked_of, Ranges}
 use Rattle.setup.specs.declared.Setup.{Setup}
 use Rattle.setup.proofs.Ranges.{and_l, and_r, good_ranges}
-use Rattle.bytes.specs.Bytes.{base, byte_at, Bytes, number_at, bytes_of}
-use Rattle.bytes.proofs.Numbers.{number_bytes, bytes_number, bytes_byte}
+use Rattle.octets.specs.Bytes.{base, byte_at, Bytes, number_at, bytes_of}
+use Rattle.octets.proofs.Numbers.{number_bytes, bytes_number, bytes_byte}
 use Rattle.setuprecord.specs.declared.SetupRecord.{SetupRecord}
 use Rattle.setuprecord.specs.SetupRecord.{setup_size, setup_fields, setup_zeros, allowed, setup_of, record_answer, recorded_or, setup_bytes, setup_written}
 use Rattle.setuprecord.specs.RoundTrip.{SetupReadAsWritten, SetupWrittenAsRead, SetupAnswered}

@@ -11,8 +11,8 @@ use Rattle.answers.specs.Answers.{done, bad_setup, bad_length}
 use Rattle.setup.specs.Setup.{with_defaults, checked_of}
 use Rattle.setup.specs.declared.Setup.{Setup}
 use Rattle.setup.specs.declared.Checked.{Checked}
-use Rattle.bytes.specs.Bytes.{byte_at, number_at, bytes_of, zeros}
-use Rattle.bytes.proofs.Numbers.{filled}
+use Rattle.octets.specs.Bytes.{byte_at, number_at, bytes_of, zeros}
+use Rattle.octets.proofs.Numbers.{filled}
 use Rattle.setuprecord.specs.declared.SetupRecord.TheVariants.{Good, Refused}
 use Rattle.setuprecord.specs.SetupRecord.{setup_size, setup_zeros, setup_fields, allowed, setup_of, setup_bytes, setup_written}
 use Rattle.setuprecord.proofs.Choice.{first, second}

@@ -3,7 +3,7 @@ use Rattle.std.specs.Prelude.{ℕ, ◌≡◌, ◌⊎◌, true, List, length}
 use Rattle.answers.specs.Answers.{done, bad_setup}
 use Rattle.setup.specs.Setup.{with_defaults, in_range}
 use Rattle.setup.specs.declared.Setup.{Setup}
-use Rattle.bytes.specs.Bytes.{Bytes}
+use Rattle.octets.specs.Bytes.{Bytes}
 use Rattle.setuprecord.specs.SetupRecord.{setup_size, setup_of, record_answer, recorded_or, setup_written}
 
 -- a setup in range is written into a room of 20 bytes with 0, and reading what it then holds answers 0 and gives the setup back

@@ -4,7 +4,7 @@ use Rattle.answers.specs.Answers.{done, bad_setup, bad_length}
 use Rattle.choice.specs.Choice.{pick}
 use Rattle.setup.specs.Setup.{with_defaults, in_range}
 use Rattle.setup.specs.declared.Setup.{Setup}
-use Rattle.bytes.specs.Bytes.{byte_at, number_at, bytes_of, zero_at, zeros}
+use Rattle.octets.specs.Bytes.{byte_at, number_at, bytes_of, zero_at, zeros}
 use Rattle.setuprecord.specs.declared.SetupRecord.{SetupRecord}
 
 -- a setup has 20 bytes

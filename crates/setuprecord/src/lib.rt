@@ -1,15 +1,17 @@
 // The setup record, 20 bytes: reading and writing it.
+#![tactic(auto)]
+
 ghost use Rattle.std.specs.Prelude.{◌≡◌, ◌++◌, length};
 ghost use Rattle.std.proofs.lemmas.List.Edits.{sets};
 ghost use Rattle.answers.specs.Answers.{done};
-ghost use Rattle.bytes.specs.Bytes.{bytes_of, zeros};
+ghost use Rattle.octets.specs.Bytes.{bytes_of, zeros};
 ghost use Rattle.setuprecord.specs.SetupRecord.{setup_size, setup_fields, allowed, setup_of, setup_bytes, setup_written};
 
-use bytes::{four_at, put_first, put_four, put_two, two_at};
+use octets::{four_at, put_first, put_four, put_two, two_at};
 use setup::{Checked, Setup};
 
 // What a setup record holds, a default given as 0 still 0; a refused one is answer 1.
-#[derive(Drop)]
+#[derive(Clone, Copy)]
 pub enum SetupRecord {
     Good(Setup),
     Refused,

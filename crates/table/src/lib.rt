@@ -1,4 +1,6 @@
 // The reservation table: c rows in lent room, by columns.
+#![tactic(auto)]
+
 ghost use Rattle.std.specs.Prelude.{◌≡◌, true, ◌*◌, ◌≤◌, ◌<◌, length};
 ghost use Rattle.model.specs.Lent.{row_numbers, row_at, put_row};
 ghost use Rattle.model.specs.Range.{row_ok, rows_ok};
