@@ -55,6 +55,7 @@ pub fn steps_end(n: usize, w: usize) -> usize
 }
 
 // At least each number of a block from a place on: their bits put together. The last steps of a part are by blocks.
+#[tactic(auto, using(crate::proofs::Flat::upto_one))]
 fn block_together(part: &[u32], at: usize) -> u32
     requires { at + block ≤ length part.now }
     ensures { UpTo result part.now at block }
@@ -69,6 +70,7 @@ fn block_together(part: &[u32], at: usize) -> u32
 }
 
 // The same for four blocks at a time: it spares a sixth of the instructions of a long part.
+#[tactic(auto, using(crate::proofs::Flat::upto_one))]
 fn wide_together(part: &[u32], at: usize) -> u32
     requires { at + wide ≤ length part.now }
     ensures { UpTo result part.now at wide }
@@ -83,6 +85,7 @@ fn wide_together(part: &[u32], at: usize) -> u32
 }
 
 // At least each number.
+#[tactic(auto, using(crate::proofs::Flat::upto_more, crate::proofs::Flat::upto_next))]
 fn all_together(part: &[u32]) -> u32
     ensures { UpTo result part.now 0 (length part.now) }
 {
@@ -107,6 +110,7 @@ fn all_together(part: &[u32]) -> u32
 }
 
 // Each number by itself.
+#[tactic(auto, using(crate::proofs::Flat::each_next, crate::proofs::Flat::each_all))]
 fn each_below(part: &[u32], bound: u32) -> bool
     ensures { result ≡ all_below bound part.now }
 {
@@ -120,6 +124,7 @@ fn each_below(part: &[u32], bound: u32) -> bool
 }
 
 // Whether every number is below the bound: at once where all of them put together are, as always under a power of two.
+#[tactic(auto, using(crate::proofs::Flat::upto_below))]
 pub fn all_below(part: &[u32], bound: u32) -> bool
     ensures { result ≡ all_below bound part.now }
 {

@@ -10,6 +10,7 @@ use flat::steps_end;
 const ROUND: usize = 16;
 
 // At least each number of a round from a place on that stand a step apart.
+#[tactic(auto, using(crate::proofs::Lanes::apart_none, crate::proofs::Lanes::apart_span))]
 fn round_together(part: &[u32], at: usize, step: usize) -> u32
     requires { (at + (round - 1) * step < length part.now) × (step ≤ 4) }
     ensures { Apart at step round part.now result }
@@ -30,6 +31,7 @@ struct Pair {
 }
 
 // At least each first and each second number of n pairs.
+#[tactic(auto, using(crate::proofs::Lanes::pairs_first, crate::proofs::Lanes::pairs_one, crate::proofs::Lanes::pairs_more, crate::proofs::Lanes::pairs_end))]
 fn pairs_together(part: &[u32], n: usize) -> Pair
     requires { length part.now ≡ 2 * n }
     ensures { TwoTogether n part.now result.first result.second }
@@ -52,6 +54,7 @@ fn pairs_together(part: &[u32], n: usize) -> Pair
 }
 
 // Each pair by itself, up to one that is not.
+#[tactic(auto, using(crate::proofs::Lanes::pair_first, crate::proofs::Lanes::pair_second, crate::proofs::Lanes::pairs_all))]
 fn each_pair_below(part: &[u32], n: usize, a: u32, b: u32) -> bool
     requires { length part.now ≡ 2 * n }
     ensures { result ≡ pairs_below a b part.now n }
@@ -77,6 +80,7 @@ pub struct Look {
 }
 
 // Looks at n pairs: their numbers put together show most of it, and else each pair.
+#[tactic(auto, using(crate::proofs::Lanes::look_each))]
 pub fn pairs(part: &[u32], n: usize, a: u32, b: u32) -> Look
     requires { (length part.now ≡ 2 * n) × (0 < b) }
     ensures { result ≡ pairs_look a b part.now n }
@@ -101,6 +105,7 @@ struct Four {
 }
 
 // At least each first, each second and each third number of n fours.
+#[tactic(auto, using(crate::proofs::Lanes::fours_first, crate::proofs::Lanes::fours_one, crate::proofs::Lanes::fours_more, crate::proofs::Lanes::fours_end))]
 fn fours_together(part: &[u32], n: usize) -> Four
     requires { length part.now ≡ 4 * n }
     ensures { ThreeTogether n part.now result.first result.second result.third }
@@ -130,6 +135,7 @@ fn fours_together(part: &[u32], n: usize) -> Four
 }
 
 // Each four by itself, up to one that is not.
+#[tactic(auto, using(crate::proofs::Lanes::four_first, crate::proofs::Lanes::four_second, crate::proofs::Lanes::four_third, crate::proofs::Lanes::four_next, crate::proofs::Lanes::fours_all))]
 fn each_four_below(part: &[u32], n: usize, a: u32, b: u32, c: u32) -> bool
     requires { length part.now ≡ 4 * n }
     ensures { result ≡ fours_below a b c part.now n }
@@ -151,6 +157,7 @@ fn each_four_below(part: &[u32], n: usize, a: u32, b: u32, c: u32) -> bool
 }
 
 // Of each of n fours, whether the first number is below a, the second below b and the third below c.
+#[tactic(auto, using(crate::proofs::Lanes::fours_tested))]
 pub fn fours_below(part: &[u32], n: usize, a: u32, b: u32, c: u32) -> bool
     requires { length part.now ≡ 4 * n }
     ensures { result ≡ fours_below a b c part.now n }

@@ -1,0 +1,10 @@
+-- The loop's invariant: o is at least each of the first j numbers.
+use Rattle.std.proofs.Common.{◌-◌, ◌≤◌}
+use Rattle.flat.specs.Flat.{wide, UpTo}
+use Rattle.flat.proofs.wide_together.Given as goal
+
+abbrev pub invariant-loop-j : goal.invariant-loop-j
+invariant-loop-j l = (l.j ≤ wide) × UpTo l.o l.part l.at l.j
+
+abbrev pub decreases-loop-j : goal.decreases-loop-j
+decreases-loop-j l = wide - l.j
