@@ -85,7 +85,7 @@ fn wide_together(part: &[u32], at: usize) -> u32
 }
 
 // At least each number.
-#[tactic(auto, using(crate::proofs::Flat::upto_more, crate::proofs::Flat::upto_next))]
+#[tactic(auto, using(crate::proofs::Flat::upto_next))]
 fn all_together(part: &[u32]) -> u32
     ensures { UpTo result part.now 0 (length part.now) }
 {
@@ -124,7 +124,6 @@ fn each_below(part: &[u32], bound: u32) -> bool
 }
 
 // Whether every number is below the bound: at once where all of them put together are, as always under a power of two.
-#[tactic(auto, using(crate::proofs::Flat::upto_below))]
 pub fn all_below(part: &[u32], bound: u32) -> bool
     ensures { result ≡ all_below bound part.now }
 {

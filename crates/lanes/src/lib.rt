@@ -31,7 +31,7 @@ struct Pair {
 }
 
 // At least each first and each second number of n pairs.
-#[tactic(auto, using(crate::proofs::Lanes::pairs_first, crate::proofs::Lanes::pairs_one, crate::proofs::Lanes::pairs_more, crate::proofs::Lanes::pairs_end))]
+#[tactic(auto, using(crate::proofs::Lanes::pairs_first, crate::proofs::Lanes::pairs_end))]
 fn pairs_together(part: &[u32], n: usize) -> Pair
     requires { length part.now ≡ 2 * n }
     ensures { TwoTogether n part.now result.first result.second }
@@ -105,7 +105,7 @@ struct Four {
 }
 
 // At least each first, each second and each third number of n fours.
-#[tactic(auto, using(crate::proofs::Lanes::fours_first, crate::proofs::Lanes::fours_one, crate::proofs::Lanes::fours_more, crate::proofs::Lanes::fours_end))]
+#[tactic(auto, using(crate::proofs::Lanes::fours_first, crate::proofs::Lanes::fours_end))]
 fn fours_together(part: &[u32], n: usize) -> Four
     requires { length part.now ≡ 4 * n }
     ensures { ThreeTogether n part.now result.first result.second result.third }
