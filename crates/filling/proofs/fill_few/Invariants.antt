@@ -1,12 +1,9 @@
 -- `filling::fill_few` meets its contract. The loop's invariant: the rows from `from` up to i are done. Assumes nothing.
-use borrow.Author.Rules.{rules}
 use Prim.Native.Nat.{◌-◌, ◌*◌, ◌≤◌}
-use native.Mathlib.Omega.{arith}
 use mathlib.Core.Path.{◌≡◌}
 use lib.ListN.{length}
 use Rattle.model.specs.Lent.{row_numbers}
 use Rattle.filling.specs.Filling.{filled_from}
-use Rattle.filling.proofs.Filled.{filled-start, filled_step, filled_end}
 use Rattle.filling.proofs.fill_few.Given as goal
 
 abbrev pub invariant-loop-i : goal.invariant-loop-i

@@ -1,12 +1,9 @@
 -- `filling::fill_others` meets its contract. The loop's invariant: the rows below i are done. Assumes nothing.
-use borrow.Author.Rules.{rules}
 use Prim.Native.Nat.{◌-◌, ◌*◌, ◌≤◌}
-use native.Mathlib.Omega.{arith}
 use mathlib.Core.Path.{◌≡◌}
 use lib.ListN.{length}
 use Rattle.model.specs.Lent.{row_numbers}
 use Rattle.model.specs.Cycle.{filled_below}
-use Rattle.filling.proofs.Filled.{filled_more, filled_all, has_kept}
 use Rattle.filling.proofs.fill_others.Given as goal
 
 abbrev pub invariant-loop-i : goal.invariant-loop-i
