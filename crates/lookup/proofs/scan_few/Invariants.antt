@@ -1,11 +1,8 @@
 -- `lookup::scan_few` meets its contract. The loop's invariant: what is to find is what the rows below i have. Assumes nothing.
 use Prim.Native.Nat.{◌-◌, ◌≤◌}
-use native.Mathlib.Omega.{arith}
 use mathlib.Core.Path.{◌≡◌}
 use Rattle.model.specs.Cycle.{scan}
 use Rattle.lookup.specs.Lookup.{wanted}
-use Rattle.lookup.proofs.Lookup.{part_hit, part_miss, part_none}
-use borrow.Author.Rules.{rules}
 use Rattle.lookup.proofs.scan_few.Given as goal
 
 abbrev pub invariant-loop-i : goal.invariant-loop-i

@@ -1,11 +1,8 @@
 -- `lookup::scan_part` meets its contract. The loop's invariant: what is to find is what the rows below i have. Assumes nothing.
-use borrow.Author.Rules.{rules}
 use Prim.Native.Nat.{◌-◌, ◌≤◌}
-use native.Mathlib.Omega.{arith}
 use mathlib.Core.Path.{◌≡◌}
 use Rattle.model.specs.Cycle.{scan}
 use Rattle.lookup.specs.Lookup.{wanted}
-use Rattle.lookup.proofs.Lookup.{part_rest, block_hit, block_miss, found_part, within_more}
 use Rattle.lookup.proofs.scan_part.Given as goal
 
 abbrev pub invariant-loop-i : goal.invariant-loop-i
