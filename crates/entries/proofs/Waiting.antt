@@ -1,5 +1,5 @@
 -- The waiting entries: how the tests of a buffer and of all go on and end, and that a bank's part has what waits at the bank. Assumes nothing.
-use Prim.Native.Nat.{ℕ, zero, suc, ◌+◌, ◌-◌, ◌*◌, ◌/◌, ◌≤◌, ◌<◌}
+use Prim.Native.Nat.{ℕ, zero, suc, ◌+◌, ◌*◌, ◌/◌, ◌≤◌, ◌<◌}
 use mathlib.Core.Bool.{Bool, true, false, not, ◌&&◌, ◌||◌}
 use mathlib.Core.Logic.{⊎_elim}
 use mathlib.Core.List.{List}
