@@ -1,4 +1,4 @@
-// The calls that C makes (include/ridkostan.h): numbers in, the controller or the records asked, numbers out.
+// The calls that C makes (include/ridkostan.h, by crates/interface_c): numbers in, the controller or the records asked, numbers out.
 #![tactic(auto)]
 
 ghost use Rattle.std.specs.Prelude.{◌≡◌};
@@ -13,8 +13,7 @@ use forms::{Asked, Checked, Cycled, Lent, Operation, Recorded, Started, State, T
 use setup::Setup;
 
 // Whether every number of the setup is in range, and the setup with its defaults in.
-#[unsafe(no_mangle)]
-pub extern "C" fn ridkostan_check(setup: Setup) -> Checked
+pub fn ridkostan_check(setup: Setup) -> Checked
     ensures { result ≡ checked_out (checked_of setup) }
 {
     let checked = Setup::checked(setup);
@@ -22,8 +21,7 @@ pub extern "C" fn ridkostan_check(setup: Setup) -> Checked
 }
 
 // How many numbers each lent room has under this setup.
-#[unsafe(no_mangle)]
-pub extern "C" fn ridkostan_lengths(setup: Setup) -> Lent
+pub fn ridkostan_lengths(setup: Setup) -> Lent
     ensures { result ≡ lengths_in (checked_of setup) }
 {
     let setup::Checked::Good(s) = Setup::checked(setup) else {
@@ -33,8 +31,7 @@ pub extern "C" fn ridkostan_lengths(setup: Setup) -> Lent
 }
 
 // A fresh start.
-#[unsafe(no_mangle)]
-pub extern "C" fn ridkostan_fresh_start(
+pub fn ridkostan_fresh_start(
     setup: Setup,
     state: State,
     memory: &[u32],
@@ -86,8 +83,7 @@ fn refuse_mark(
 }
 
 // One cycle.
-#[unsafe(no_mangle)]
-pub extern "C" fn ridkostan_cycle(
+pub fn ridkostan_cycle(
     setup: Setup,
     state: State,
     operation: Operation,
@@ -110,8 +106,7 @@ pub extern "C" fn ridkostan_cycle(
 }
 
 // How many entries wait at one bank.
-#[unsafe(no_mangle)]
-pub extern "C" fn ridkostan_waiting(
+pub fn ridkostan_waiting(
     setup: Setup,
     state: State,
     bank: u32,
@@ -142,32 +137,28 @@ pub extern "C" fn ridkostan_waiting(
 }
 
 // The setup in a record, a default given as 0 still 0.
-#[unsafe(no_mangle)]
-pub extern "C" fn ridkostan_read_setup(bytes: &[u8]) -> Checked
+pub fn ridkostan_read_setup(bytes: &[u8]) -> Checked
     ensures { result ≡ setup_read (setup_of bytes.now) }
 {
     forms::setup_read(setuprecord::read_setup(bytes))
 }
 
 // Writes a setup over the whole room.
-#[unsafe(no_mangle)]
-pub extern "C" fn ridkostan_write_setup(setup: Setup, room: &mut [u8]) -> u32
+pub fn ridkostan_write_setup(setup: Setup, room: &mut [u8]) -> u32
     ensures { (result, room.new) ≡ setup_written setup room.old }
 {
     setuprecord::write_setup(setup, room)
 }
 
 // The operation in a record.
-#[unsafe(no_mangle)]
-pub extern "C" fn ridkostan_read_operation(bytes: &[u8]) -> Recorded
+pub fn ridkostan_read_operation(bytes: &[u8]) -> Recorded
     ensures { result ≡ operation_read (operation_of bytes.now) }
 {
     forms::operation_read(records::read_operation(bytes))
 }
 
 // Writes an operation over the whole room.
-#[unsafe(no_mangle)]
-pub extern "C" fn ridkostan_write_operation(operation: Operation, room: &mut [u8]) -> u32
+pub fn ridkostan_write_operation(operation: Operation, room: &mut [u8]) -> u32
     ensures { (result, room.new) ≡ operation_written_out operation room.old }
 {
     let records::OperationRecord::Good(op) = forms::operation_in(operation) else {
