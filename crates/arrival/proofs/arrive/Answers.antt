@@ -16,6 +16,5 @@ plan-arrives : (s : Setup) (position : ℕ) (p : Plan) (rows : List ℕ) (q q' :
 unfolding arrived
 plan-arrives s position p rows q q' taken x rows' z ex er = rw (← z, er, ex)
 
-
 pub returns : goal.returns
 returns c = search (plan-arrives)

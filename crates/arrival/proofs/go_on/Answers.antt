@@ -25,6 +25,5 @@ planned-lands : (s : Setup) (t : State) (op : Operation) (rows : List ℕ) (q : 
 unfolding after_service retired
 planned-lands s t op rows q d g w ed eg z = rw (← ed, ← eg) z
 
-
 pub returns : goal.returns
 returns c = search (planned-lands)

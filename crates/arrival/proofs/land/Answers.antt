@@ -96,6 +96,5 @@ module _ (s : Setup) (q q' : Buffers) (g : Placing) (ok : Bool) (eg : (ok, q') �
     cycle-stops : ok ≡ false → r ≡ cycled t stopping d (stopped_state t) → (r, (rows, q')) ≡ going s t (planned s t.position op rows) d rows (placed_if s g q)
     cycle-stops h e = rw (← eg, h, e)
 
-
 pub take-taken-requires : goal.take-taken-requires
 take-taken-requires c = (search rules, search rules, search (each_after), search rules)

@@ -25,6 +25,5 @@ module _ (s : Setup) (q : Buffers) where
   one_placed : (p : Placing) (e : Entry) (w : Bool × Buffers) → p ≡ OneEntry e → w ≡ placed s e q → w ≡ placed_if s p q
   one_placed p e w h z = rw h z
 
-
 pub place-requires : goal.place-requires
 place-requires c = search (each-of-cell)

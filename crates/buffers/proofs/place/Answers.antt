@@ -2,8 +2,6 @@
 use Rattle.buffers.proofs.Banks.{place_full, place_free}
 use Rattle.buffers.proofs.place.Goals as goal
 
-
-
 pub returns-then-full : goal.returns-then-full
 returns-then-full c = search (place_full)
 

@@ -2,7 +2,5 @@
 use Rattle.buffers.proofs.Banks.{placed_left}
 use Rattle.buffers.proofs.place_at.Goals as goal
 
-
-
 pub returns : goal.returns
 returns c = search (placed_left)

@@ -31,7 +31,6 @@ module _ (g : Setup) (t : State) (op : Operation) (x : Lent) (k : Standing) (ek 
     unfolding cycle_in step_of
     cycle-passed d e = rw (← ek, h, ← en, eq-eqb n done d) e
 
-
 pub offered-n-requires : goal.offered-n-requires
 offered-n-requires c = (standing_ready c.args.setup _ _ _ c.standing.ensures c.in-Sound.is).good.ranges
 

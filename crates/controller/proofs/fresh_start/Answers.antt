@@ -32,7 +32,6 @@ module _ (g : Setup) (t : State) (memory rows entries heads : List ℕ) (k : Sta
       let n : length heads ≡ (lengths_of s).heads = search (and_l, and_r, eqb-true) depth 12 in
       rw (← ek, z, er, eh, et, m, n)
 
-
 pub returns-in-Refusal : goal.returns-in-Refusal
 returns-in-Refusal c = search (fresh-refused)
 

@@ -54,7 +54,6 @@ module _ (g : Setup) (t : State) (bank : ℕ) (memory rows entries heads : List 
     sound-heads : length heads ≡ (lengths_of s).heads
     sound-heads = sound-room.heads_long
 
-
 pub numbers_ok-requires : goal.numbers_ok-requires
 numbers_ok-requires c = (search (sound-ranges), search (sound-rows), search (sound-room))
 

@@ -2,8 +2,6 @@
 use Rattle.filling.proofs.Filled.{filled_few, filled_first}
 use Rattle.filling.proofs.fill.Goals as goal
 
-
-
 pub returns-then-c-lt-BLOCK : goal.returns-then-c-lt-BLOCK
 returns-then-c-lt-BLOCK c = search filled_few
 

@@ -2,7 +2,5 @@
 use Rattle.filling.proofs.Filled.{block_calm}
 use Rattle.filling.proofs.fill_block.Goals as goal
 
-
-
 pub returns-then-times-eq0 : goal.returns-then-times-eq0
 returns-then-times-eq0 c = search block_calm

@@ -3,8 +3,6 @@ use native.Mathlib.Omega.{arith}
 use Rattle.filling.proofs.Filled.{filled-start, filled_step, filled_end}
 use Rattle.filling.proofs.fill_few.Goals as goal
 
-
-
 pub loop-i-init : goal.loop-i-init
 loop-i-init c = (omega arith, omega arith, omega arith, search filled-start)
 

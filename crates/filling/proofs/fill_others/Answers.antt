@@ -5,8 +5,6 @@ use Rattle.model.specs.Cycle.{filled_below}
 use Rattle.filling.proofs.Filled.{filled_more, filled_all, has_kept}
 use Rattle.filling.proofs.fill_others.Goals as goal
 
-
-
 pub loop-i-init : goal.loop-i-init
 unfolding filled_below
 loop-i-init c = search rules

@@ -25,7 +25,6 @@ module _ (t : State) (op : Operation) (r : OperationRecord) (er : r ≡ operatio
     unfolding asked_in
     asked-bad-mark f = rw (← er, h, ← eb, f)
 
-
 pub returns-in_default : goal.returns-in_default
 returns-in_default c = search (asked-none)
 

@@ -18,7 +18,6 @@ module _ (t : State) (r : starting.Started) where
   unfolding started_out
   start-refused h = rw (ne_eqb r.answer done h)
 
-
 pub returns-then-started-eq-DONE : goal.returns-then-started-eq-DONE
 returns-then-started-eq-DONE c = search (start-done)
 

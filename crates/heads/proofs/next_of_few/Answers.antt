@@ -3,8 +3,6 @@ use native.Mathlib.Omega.{arith}
 use Rattle.heads.proofs.Quiet.{next_here, next_on, next_end}
 use Rattle.heads.proofs.next_of_few.Goals as goal
 
-
-
 pub returns-then-count_at-ne0 : goal.returns-then-count_at-ne0
 returns-then-count_at-ne0 c = (search next_here, omega arith, omega arith)
 

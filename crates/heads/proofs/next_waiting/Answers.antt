@@ -24,6 +24,5 @@ next-four heads i k r y h l q e =
 found : (heads : List ℕ) (i n r x : ℕ) → r ≡ next_waiting heads i n → next_waiting heads i n ≡ x → r ≡ x
 found heads i n r x p q = p ∙ q
 
-
 pub loop-i-preserved : goal.loop-i-preserved
 loop-i-preserved c = (omega arith, omega arith, search next-four)

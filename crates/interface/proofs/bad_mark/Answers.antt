@@ -26,7 +26,6 @@ module _ (g : Checked) (x : Lent) (r : Checked) (e : r ≡ g) where
     unfolding bad_mark
     mark-other-lengths f = rw (← e, h, ← eb, f)
 
-
 pub returns-in_default : goal.returns-in_default
 returns-in_default c = search (mark-refused-setup)
 

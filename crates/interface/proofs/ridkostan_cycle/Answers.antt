@@ -34,7 +34,6 @@ module _ (s : Setup) (t : State) (op : Operation) (x : Lent) (a : Asked) (ea : a
       go : (w : cycling.Cycled × Lent) → (q, y) ≡ w → (out, y) ≡ cycled_with w
       go w ew = rw (← ew, e)
 
-
 pub returns-in-NoOperation : goal.returns-in-NoOperation
 returns-in-NoOperation c = search (cycle-none)
 

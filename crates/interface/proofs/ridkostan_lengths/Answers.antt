@@ -19,6 +19,5 @@ module _ (g r : Checked) (e : r ≡ g) (out : Lent) where
   lengths-good : (s : Setup) (due : Lengths) → r ≡ Good s → due ≡ lengths_of s → out ≡ lent_out due → out ≡ lengths_in g
   lengths-good s due h ed eo = rw (← e, h) (eo ∙ ap lent_out ed)
 
-
 pub lengths-requires : goal.lengths-requires
 lengths-requires c = search (good_ranges)

@@ -25,7 +25,6 @@ module _ (s : Setup) (t : State) (b : ℕ) (x : Lent) (m : Bool) (em : m ≡ mar
   unfolding waiting_out
   waiting-bad-mark n h en = rw (← em, h, en)
 
-
 pub returns-then-mark_ok : goal.returns-then-mark_ok
 returns-then-mark_ok c = search (waiting-told)
 

@@ -2,8 +2,6 @@
 use Rattle.lookup.proofs.Lookup.{near_none, near_own}
 use Rattle.lookup.proofs.near.Goals as goal
 
-
-
 pub returns-then-rows-c : goal.returns-then-rows-c
 returns-then-rows-c c = λ h. search (near_own, h)
 

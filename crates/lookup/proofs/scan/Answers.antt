@@ -3,8 +3,6 @@ use borrow.Author.Rules.{rules}
 use Rattle.lookup.proofs.Lookup.{scan_low, scan_high, found_low}
 use Rattle.lookup.proofs.scan.Goals as goal
 
-
-
 pub returns-in_default : goal.returns-in_default
 returns-in_default c = (search scan_high, search rules)
 

@@ -2,8 +2,6 @@
 use Rattle.lookup.proofs.Lookup.{above_found, above_on, above_rest, found_below, within_more}
 use Rattle.lookup.proofs.scan_above.Goals as goal
 
-
-
 pub returns-then-there : goal.returns-then-there
 returns-then-there c = (search above_on, search (within_more))
 

@@ -2,8 +2,6 @@
 use Rattle.lookup.proofs.Lookup.{below_found, below_on, below_rest, found_below, within_more}
 use Rattle.lookup.proofs.scan_below.Goals as goal
 
-
-
 pub returns-in_default : goal.returns-in_default
 returns-in_default c = (search below_on, search (within_more))
 

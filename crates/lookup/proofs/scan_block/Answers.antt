@@ -2,7 +2,5 @@
 use Rattle.lookup.proofs.Lookup.{block_free}
 use Rattle.lookup.proofs.scan_block.Goals as goal
 
-
-
 pub returns-then-times-eq0 : goal.returns-then-times-eq0
 returns-then-times-eq0 c = (search block_free, tt)

@@ -3,8 +3,6 @@ use native.Mathlib.Omega.{arith}
 use Rattle.lookup.proofs.Lookup.{part_hit, part_miss, part_none}
 use Rattle.lookup.proofs.scan_few.Goals as goal
 
-
-
 pub returns-then-wanted : goal.returns-then-wanted
 returns-then-wanted c = (search part_hit, omega arith)
 

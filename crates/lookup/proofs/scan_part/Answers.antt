@@ -3,8 +3,6 @@ use native.Mathlib.Omega.{arith}
 use Rattle.lookup.proofs.Lookup.{block_hit, block_miss, found_part}
 use Rattle.lookup.proofs.scan_part.Goals as goal
 
-
-
 pub returns-in-At : goal.returns-in-At
 returns-in-At c = (search block_hit, search found_part)
 

@@ -2,8 +2,6 @@
 use Rattle.lookup.proofs.Lookup.{rest_none, rest_free}
 use Rattle.lookup.proofs.scan_rest.Goals as goal
 
-
-
 pub returns-then-to-from : goal.returns-then-to-from
 returns-then-to-from c = (search rest_none, tt)
 

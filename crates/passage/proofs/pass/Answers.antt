@@ -30,7 +30,6 @@ went_on : (s : Setup) (t : State) (op : Operation) (memory rows entries heads me
 unfolding passed
 went_on s t op memory rows entries heads memory' rows' heads' rows'' entries'' heads'' r e z = rw (← e, ← z)
 
-
 pub go_on-requires : goal.go_on-requires
 go_on-requires c =
     let g = served_good _ _ _ _ _ _ _ _ _ c.requires.good c.serve.ensures in

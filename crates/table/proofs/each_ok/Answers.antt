@@ -5,8 +5,6 @@ use Rattle.model.specs.Range.{rows_ok}
 use Rattle.table.proofs.Columns.{rows_more, rows_out, rows_every}
 use Rattle.table.proofs.each_ok.Goals as goal
 
-
-
 pub loop-i-init : goal.loop-i-init
 unfolding rows_ok
 loop-i-init c = (omega arith, refl)
