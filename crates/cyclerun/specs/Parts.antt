@@ -1,5 +1,5 @@
 -- What the program reads and prints: the setup file, and the input in parts.
-use Rattle.std.specs.Prelude.{ℕ, ◌+◌, ◌*◌, ◌^◌, ◌≡◌, Bool, false, ◌&&◌, List, [], ◌∷◌, ◌++◌, eqb, ltb, length, take}
+use Rattle.std.specs.Prelude.{ℕ, ◌+◌, ◌*◌, ◌^◌, ◌≡◌, ◌≤◌, Bool, false, ◌&&◌, List, [], ◌∷◌, ◌++◌, eqb, ltb, length, take}
 use Rattle.setup.specs.declared.Setup.{Setup}
 use Rattle.model.specs.Lent.{Lent}
 use Rattle.records.specs.Records.{operation_size}
@@ -7,6 +7,13 @@ use Rattle.replay.specs.declared.Opening.{Opening}
 use Rattle.replay.specs.declared.Run.{Run}
 use Rattle.replay.specs.Replay.{opening_of, Listed, listed, listed_from, first_of, printed_in, printed}
 use Rattle.replay.specs.Parts.{apart}
+
+------------------------------------------------------------------------
+-- A read
+
+-- so many bytes stand at the start of the room that was read into: the room has as many, and its start is as long
+abbrev pub IsPrefixLen : ℕ → List ℕ → Type 0
+IsPrefixLen n room = (n ≤ length room) × (n ≡ length (take n room))
 
 ------------------------------------------------------------------------
 -- The setup file

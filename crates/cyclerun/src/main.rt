@@ -2,17 +2,18 @@
 #![tactic(auto)]
 
 ghost use Rattle.std.specs.Prelude.{◌≡◌, ◌+◌, ◌*◌, ◌^◌, ◌≤◌, ◌<◌, length, take};
-ghost use Rattle.io.specs.Counts.{IsPrefixLen};
 ghost use Rattle.model.specs.Lent.{lent};
 ghost use Rattle.decimal.specs.Decimal.{pair_table};
 ghost use Rattle.listing.specs.Listing.{line_most};
 ghost use Rattle.replay.specs.Replay.{records_in, listed, listed_from, put_at, zeros_for, whole_room, Opened};
-ghost use Rattle.cyclerun.specs.Parts.{Opens, PrintsOnly, part_most, part_bytes, Reached, Adds, Ended};
+ghost use Rattle.cyclerun.specs.Parts.{IsPrefixLen, Opens, PrintsOnly, part_most, part_bytes, Reached, Adds, Ended};
 
-use libc::{STDIN_FILENO, STDOUT_FILENO};
 use model::{Entry, Head, Row};
 use replay::{Opening, Run};
 use setup::Setup;
+use std::fs;
+use std::io::Read;
+use std::rt::Files;
 
 // The records that are read and printed at once.
 const PART: usize = 1024;
@@ -35,15 +36,32 @@ struct Part {
     written: bool,
 }
 
+// Reads until the room is full, the input ends or a read fails, and answers how many bytes it put at the start of the room.
+fn read_full<I: Read>(input: &mut I, room: &mut [u8]) -> usize
+    ensures { IsPrefixLen result room.new }
+{
+    let mut done: usize = 0;
+    while done < room.len() {
+        let n = input.read(&mut room[done..]).unwrap_or(0);
+        if n == 0 {
+            break;
+        }
+        done += n;
+    }
+    done
+}
+
 // Hands the system what a part adds to the print. Setup, parts before and part are there for the contract to speak of.
-fn hand_over(s: Setup, parts: u64, part: &[u8], text: &[u8]) -> bool
+fn hand_over<P: Print>(system: &P, s: Setup, parts: u64, part: &[u8], text: &[u8]) -> bool
     requires { Adds s parts part.now text.now }
 {
-    io::write_all(STDOUT_FILENO, text)
+    system.write_all(text).is_ok()
 }
 
 // Reads the next part of the input, and prints its lines.
-fn run_part(
+fn run_part<I: Read, P: Print>(
+    operations: &mut I,
+    system: &P,
     s: Setup,
     parts: u64,
     run: Run,
@@ -62,7 +80,7 @@ fn run_part(
         ≡ put_at out.old 0 (listed s (take result.read input.new) (listed_from run (lent memory.old rows.old entries.old heads.old))))
         × (result.read ≤ length input.new) }
 {
-    let n = io::read_full(STDIN_FILENO, input);
+    let n = read_full(operations, input);
     let r = replay::part(
         s,
         run,
@@ -75,7 +93,7 @@ fn run_part(
         out,
     );
     let end = r.end;
-    let written = hand_over(s, parts, &input[..n], &out[..end]);
+    let written = hand_over(system, s, parts, &input[..n], &out[..end]);
     Part {
         run: r,
         read: n,
@@ -84,7 +102,9 @@ fn run_part(
 }
 
 // Runs to the end of the input, to a bad record or to a write that fails, and answers the last part.
-fn run_all(
+fn run_all<I: Read, P: Print>(
+    operations: &mut I,
+    system: &P,
     s: Setup,
     memory: &mut [u32],
     rows: &mut [u32],
@@ -102,7 +122,9 @@ fn run_all(
     let mut r = replay::begin(s, memory, rows, entries, heads);
     let mut parts: u64 = 0;
     loop {
-        let part = run_part(s, parts, r, memory, rows, entries, heads, table, input, out);
+        let part = run_part(
+            operations, system, s, parts, r, memory, rows, entries, heads, table, input, out,
+        );
         r = part.run;
         parts += 1;
         let on = r.on & part.written & (part.read == input.len()) & (parts < MOST_PARTS);
@@ -113,7 +135,9 @@ fn run_all(
 }
 
 // Runs in the part of the program's room that the setup asks for.
-fn cut(
+fn cut<I: Read, P: Print>(
+    operations: &mut I,
+    system: &P,
     s: Setup,
     memory: &mut [u32],
     rows: &mut [u32],
@@ -133,6 +157,8 @@ fn cut(
     let entry_numbers = Entry::NUMBERS * (banks * (s.k as usize));
     let head_numbers = Head::NUMBERS * banks;
     run_all(
+        operations,
+        system,
         s,
         &mut memory[..words],
         &mut rows[..row_numbers],
@@ -145,7 +171,7 @@ fn cut(
 }
 
 // Makes the program's room, all zeros, and runs in it. The file is there for the contract to speak of.
-fn start(file: &[u8], s: Setup)
+fn start<S: Input + Print>(system: &S, file: &[u8], s: Setup)
     requires { Opens file.now s }
 {
     let mut memory = [0u32; replay::WORDS];
@@ -155,7 +181,10 @@ fn start(file: &[u8], s: Setup)
     let mut input = [0u8; INPUT_BYTES];
     let mut out = [0u8; OUTPUT_BYTES];
     let table = decimal::pairs();
+    let mut operations = system.reader();
     cut(
+        &mut operations,
+        system,
         s,
         &mut memory,
         &mut rows,
@@ -168,35 +197,32 @@ fn start(file: &[u8], s: Setup)
 }
 
 // Reads the file `setup`: no bytes where it is missing.
-fn read_setup(file: &mut [u8]) -> usize
+fn read_setup<S: Files>(system: &S, file: &mut [u8]) -> usize
     ensures { IsPrefixLen result file.new }
 {
-    let fd = os::open_read(b"setup");
-    if fd < 0 {
-        return 0;
+    match fs::open(system, "setup") {
+        Ok(mut opened) => read_full(&mut opened, file),
+        Err(_) => 0,
     }
-    let n = io::read_full(fd, file);
-    libc::close(fd);
-    n
 }
 
 // Hands the system the line of a refused setup: all that is printed, whatever the input.
-fn refuse(file: &[u8], line: &[u8])
+fn refuse<P: Print>(system: &P, file: &[u8], line: &[u8])
     requires { PrintsOnly file.now line.now }
 {
-    io::write_all(STDOUT_FILENO, line);
+    let _ = system.write_all(line);
 }
 
-fn main() {
+fn main(rt: HostRuntime) {
     // One byte more than a setup has, so that a file that is too long is seen.
     let mut file = [0u8; setuprecord::SETUP_BYTES + 1];
-    let n = read_setup(&mut file);
+    let n = read_setup(&rt, &mut file);
     let opening = replay::open(&file[..n]);
     match opening {
-        Opening::Open(s) => start(&file[..n], s),
+        Opening::Open(s) => start(&rt, &file[..n], s),
         Opening::Refused(answer) => {
             let line = replay::setup_line(answer);
-            refuse(&file[..n], &line);
+            refuse(&rt, &file[..n], &line);
         }
     }
 }
