@@ -15,7 +15,7 @@ use Rattle.model.specs.Lent.{Lent, lent, Buffers, row_numbers, entry_numbers, he
 abbrev pub lengths_for : (n c p b : ℕ) → Lengths
 lengths_for n c p b = record { memory = n; rows = row_numbers * c; entries = entry_numbers * p; heads = head_numbers * b }
 
--- memory of N words, room for C rows and room for B-as-K entries, and a head a bank
+-- memory of N words, room for C rows and room for B·K entries, and a head a bank
 abbrev pub lengths_of : Setup → Lengths
 lengths_of s = lengths_for (words_of s) s.c (banks_of s * s.k) (banks_of s)
 

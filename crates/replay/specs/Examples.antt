@@ -31,7 +31,7 @@ run_examples =
     ∷ row [] [] "setup 1\n"
     ∷ row (setup_bytes (setup_with 1 2 1 2 1 1 3 1 0)) [] "setup 1\n"
     ∷ row (setup_bytes (setup_with 1 12 1 16 65 0 0 1 0)) [] "setup 8\n"
-    -- the program's room at its edges: a 12, C 1,024 and B-as-K 1,024, and one more of each
+    -- the program's room at its edges: a 12, C 1,024 and B·K 1,024, and one more of each
     ∷ row (setup_bytes (setup_with 0 12 3 8 128 1024 1024 1 0)) [] ""
     ∷ row (setup_bytes (setup_with 0 13 0 1 1 0 0 1 0)) [] "setup 8\n"
     ∷ row (setup_bytes (setup_with 0 1 0 1 1 1 1025 1 0)) [] "setup 8\n"

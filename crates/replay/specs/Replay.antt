@@ -23,7 +23,7 @@ use Rattle.replay.specs.declared.Run.{Run}
 ------------------------------------------------------------------------
 -- The setup
 
--- its room holds a up to 12, C up to 1,024 and B-as-K up to 1,024
+-- its room holds a up to 12, C up to 1,024 and B·K up to 1,024
 abbrev pub most_a : ℕ
 most_a = 12
 

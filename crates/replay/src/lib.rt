@@ -34,7 +34,7 @@ pub struct Run {
     pub end: usize,
 }
 
-// The program's room: a up to 12, C up to 1,024 and B.K up to 1,024.
+// The program's room: a up to 12, C up to 1,024 and B·K up to 1,024.
 const MOST_A: u8 = 12;
 
 const MOST_C: u16 = 1024;

@@ -1,5 +1,5 @@
 -- A shift by the row's bits is a division by 2^(a − s), a mask of s ones a remainder by 2^s.
-use Rattle.std.proofs.Common.{rules, ◌≡◌, ℕ, ◌-◌, ◌^◌, ◌%◌, ◌/◌, bit_and}
+use Rattle.std.proofs.Common.{◌≡◌, ℕ, ◌-◌, ◌^◌, ◌%◌, ◌/◌, bit_and}
 use Rattle.std.proofs.lemmas.Nat.{and_mask}
 use Rattle.map.specs.Map.{bank_of}
 use Rattle.map.proofs.Cell.bank.Goals as goal
