@@ -6,7 +6,7 @@
 --   same_word               where the shallower has dropped no write to a and still goes, the ideal SRAMs of both have one word at a
 --   same-until              as long as the shallower neither drops nor stops the two reply alike; the next call delivers alike in any case (same_next)
 --   merging-keeps-writes    merging, no write is ever dropped
-use Prim.Native.Nat.{ℕ, ◌+◌, ◌-◌}
+use Prim.Native.Nat.{ℕ, ◌+◌}
 use native.Mathlib.Omega.{arith}
 use mathlib.Core.Path.{◌≡◌, refl, sym, ap, subst, ◌∙◌}
 use mathlib.Core.Logic.{◌≢◌}

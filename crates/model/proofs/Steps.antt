@@ -1,5 +1,5 @@
 -- One call of the machine that nothing refuses: its answer, and the state and stamp by the answer. Assumes nothing.
-use Prim.Native.Nat.{ℕ, ◌-◌}
+use Prim.Native.Nat.{ℕ}
 use mathlib.Core.Path.{◌≡◌, refl}
 use mathlib.Core.Logic.{inl, inr}
 use mathlib.Core.Bool.{Bool, true, false}
