@@ -115,15 +115,15 @@ module _ (s : Setup) (entries heads : List ℕ) (k banks : ℕ) (ek : k ≡ s.k)
   heads_each : (m : ℕ) → m ≤ k + 1 → pairs_below k m heads banks ≡ true → HeadsOk s heads
   heads_each m n h b l = let p = pairs_each k m heads banks h b (omega arith) in head_ok_lem s heads b (omega arith) (omega arith)
 
-  module _ (r : Look) (e : r ≡ pairs_look k (k + 1) heads banks) where
-    -- nothing waits
-    pub told_none : r.none ≡ true → true ≡ buffers_ok s (buffers_in entries heads) (banks_of s)
-    told_none h =
-        let z : pairs_below k 1 heads banks ≡ true = sym (ap (λ (x : Look). x.none) e) ∙ h in
-        sym (range.buffers_all s (buffers_in entries heads) (banks_of s) (λ b l.
-        let p = pairs_each k 1 heads banks z b (omega arith) in
-        buffer_ok_lem s (buffers_in entries heads) b (heads_each 1 (omega arith) z b l) (λ i g. absurd (omega arith))))
+  -- nothing waits, by whatever bound on the counts the heads were looked at
+  pub told_none : (r : Look) (m : ℕ) → r ≡ pairs_look k m heads banks → r.none ≡ true → true ≡ buffers_ok s (buffers_in entries heads) (banks_of s)
+  told_none r m e h =
+      let z : pairs_below k 1 heads banks ≡ true = sym (ap (λ (x : Look). x.none) e) ∙ h in
+      sym (range.buffers_all s (buffers_in entries heads) (banks_of s) (λ b l.
+      let p = pairs_each k 1 heads banks z b (omega arith) in
+      buffer_ok_lem s (buffers_in entries heads) b (heads_each 1 (omega arith) z b l) (λ i g. absurd (omega arith))))
 
+  module _ (r : Look) (e : r ≡ pairs_look k (k + 1) heads banks) where
     -- every head is in range
     pub told_below : r.below ≡ true → HeadsOk s heads
     told_below h = heads_each (k + 1) (omega arith) (sym (ap (λ (x : Look). x.below) e) ∙ h)

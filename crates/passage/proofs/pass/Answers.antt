@@ -36,4 +36,4 @@ go_on-requires c =
     (g.0, g.1, g.2, c.requires.turn, c.requires.position)
 
 pub returns : goal.returns
-returns c = went_on _ _ _ _ _ _ _ _ _ _ _ _ _ _ c.serve.ensures c.go_on.ensures
+returns c = search (went_on)
