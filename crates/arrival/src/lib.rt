@@ -9,20 +9,20 @@ ghost use Rattle.model.specs.Range.{lengths_of, GoodBuffers};
 ghost use Rattle.model.specs.Cycle.{placed_if, planned, arrived, going, after_service};
 ghost use Rattle.arrival.specs.Banks.{EachBuffer};
 
-use model::{Cycled, Placing, Plan, State};
+use model::{Cycled, Entry, Plan, State};
 use port::{Delivery, Operation};
 use setup::Setup;
 
 // Places what is to be placed. False where its buffer is full.
-fn place_if(s: Setup, p: Placing, entries: &mut [u32], heads: &mut [u32]) -> bool
+fn place_if(s: Setup, p: Option<Entry>, entries: &mut [u32], heads: &mut [u32]) -> bool
     requires { EachBuffer s (buffers_in entries.old heads.old) }
     ensures { (result, buffers_in entries.new heads.new)
         ≡ placed_if s p (buffers_in entries.old heads.old) }
 {
-    let Placing::OneEntry(e) = p else {
-        return true;
-    };
-    buffers::place(s, e, entries, heads)
+    match p {
+        Some(e) => buffers::place(s, e, entries, heads),
+        None => true,
+    }
 }
 
 // The operation fills its row as planned. True where it is taken.
@@ -85,7 +85,7 @@ fn land(
     t: State,
     op: Operation,
     delivery: Delivery,
-    retiring: Placing,
+    retiring: Option<Entry>,
     rows: &mut [u32],
     entries: &mut [u32],
     heads: &mut [u32],

@@ -7,7 +7,7 @@ ghost use Rattle.model.specs.Range.{lengths_of};
 ghost use Rattle.model.specs.Cycle.{delivered, newest_live, given_up, merged_plan, planned};
 
 use map::Address;
-use model::{Found, Placing, Plan, Row};
+use model::{Entry, Plan, Row};
 use port::{Delivery, Operation};
 use setup::Setup;
 
@@ -21,16 +21,16 @@ pub fn deliver(s: Setup, position: usize, rows: &[u32]) -> Delivery
 }
 
 // What the row filled C cycles ago places as it is given up: merging, a write that no newer live write replaces.
-pub fn give_up(s: Setup, position: usize, rows: &[u32]) -> Placing
+pub fn give_up(s: Setup, position: usize, rows: &[u32]) -> Option<Entry>
     requires { Ranges s × (length rows.now ≡ (lengths_of s).rows) × (position < s.c) }
     ensures { result ≡ given_up s position rows.now }
 {
     if s.mode != Setup::MERGING {
-        return Placing::NoEntry;
+        return None;
     }
     let r = table::row_at(rows, s.c as usize, position);
     if r.kind != Row::WRITE {
-        return Placing::NoEntry;
+        return None;
     }
     plan::give_up_write(
         s,
@@ -44,10 +44,10 @@ fn merge_read(s: Setup, position: u32, a: Address, rows: &[u32]) -> Plan
     requires { Ranges s × (length rows.now ≡ (lengths_of s).rows) × (position < s.c) }
     ensures { result ≡ merged_plan s position a (newest_live s position a rows.now) rows.now }
 {
-    let Found::At(i) = lookup::newest_live(rows, s.c as usize, position as usize, a) else {
-        return plan::plan_read(s, position, a);
-    };
-    plan::plan_merged(a, table::row_at(rows, s.c as usize, i))
+    match lookup::newest_live(rows, s.c as usize, position as usize, a) {
+        Some(i) => plan::plan_merged(a, table::row_at(rows, s.c as usize, i)),
+        None => plan::plan_read(s, position, a),
+    }
 }
 
 // What the operation is to do.

@@ -10,7 +10,7 @@ ghost use Rattle.model.specs.Range.{Within};
 ghost use Rattle.lookup.specs.Lookup.{wanted, Alone, Nearby};
 
 use map::Address;
-use model::{Found, Row};
+use model::Row;
 
 // A row of this address: a write where only those are wanted, else any that is not empty.
 // Whole addresses are compared, and first: most rows differ there.
@@ -31,7 +31,14 @@ fn wanted(rows: &[u32], c: usize, i: usize, a: Address, written: bool) -> bool
 }
 
 // The last such row from one place up to another, row by row.
-fn scan_few(rows: &[u32], c: usize, from: usize, to: usize, a: Address, written: bool) -> Found
+fn scan_few(
+    rows: &[u32],
+    c: usize,
+    from: usize,
+    to: usize,
+    a: Address,
+    written: bool,
+) -> Option<usize>
     requires { (length rows.now ≡ row_numbers * c) × (from ≤ to) × (to ≤ c) }
     ensures { (result ≡ scan (wanted written a) c rows.now (to - from) to) × Within to result }
 {
@@ -39,49 +46,70 @@ fn scan_few(rows: &[u32], c: usize, from: usize, to: usize, a: Address, written:
     while from < i {
         i = i - 1;
         if wanted(rows, c, i, a, written) {
-            return Found::At(i);
+            return Some(i);
         }
     }
-    Found::Nothing
+    None
 }
 
 // The last such row of a block: row by row only where one of them has the address.
-fn scan_block(rows: &[u32], c: usize, from: usize, to: usize, a: Address, written: bool) -> Found
+fn scan_block(
+    rows: &[u32],
+    c: usize,
+    from: usize,
+    to: usize,
+    a: Address,
+    written: bool,
+) -> Option<usize>
     requires { (length rows.now ≡ row_numbers * c) × (to ≡ from + block) × (to ≤ c) }
     ensures { (result ≡ scan (wanted written a) c rows.now (to - from) to) × Within to result }
 {
     let at = Row::ADDRESSES * c + from;
     if flat::times(&rows[at..at + flat::BLOCK], a.0) == 0 {
-        return Found::Nothing;
+        return None;
     }
     scan_few(rows, c, from, to, a, written)
 }
 
 // The last such row from one place up to another, fewer than a block on: row by row only where a block that they are in has the address.
-fn scan_rest(rows: &[u32], c: usize, from: usize, to: usize, a: Address, written: bool) -> Found
+fn scan_rest(
+    rows: &[u32],
+    c: usize,
+    from: usize,
+    to: usize,
+    a: Address,
+    written: bool,
+) -> Option<usize>
     requires { (length rows.now ≡ row_numbers * c) × (block ≤ c) × (from ≤ to) × (to ≤ c) × (to ≤ from + block) }
     ensures { (result ≡ scan (wanted written a) c rows.now (to - from) to) × Within to result }
 {
     if to <= from {
-        return Found::Nothing;
+        return None;
     }
     let at = Row::ADDRESSES * c + flat::block_of(to);
     if flat::times(&rows[at..at + flat::BLOCK], a.0) == 0 {
-        return Found::Nothing;
+        return None;
     }
     scan_few(rows, c, from, to, a, written)
 }
 
 // The last such row from one place up to another: straight down by blocks, so that no step has to look for the end of the table.
-fn scan_part(rows: &[u32], c: usize, from: usize, to: usize, a: Address, written: bool) -> Found
+fn scan_part(
+    rows: &[u32],
+    c: usize,
+    from: usize,
+    to: usize,
+    a: Address,
+    written: bool,
+) -> Option<usize>
     requires { (length rows.now ≡ row_numbers * c) × (block ≤ c) × (from ≤ to) × (to ≤ c) }
     ensures { (result ≡ scan (wanted written a) c rows.now (to - from) to) × Within to result }
 {
     let mut i = to;
     while flat::BLOCK <= i - from {
         let r = scan_block(rows, c, i - flat::BLOCK, i, a, written);
-        if let Found::At(j) = r {
-            return Found::At(j);
+        if let Some(j) = r {
+            return Some(j);
         }
         i = i - flat::BLOCK;
     }
@@ -123,15 +151,15 @@ fn scan_below(
     there: bool,
     a: Address,
     written: bool,
-) -> Found
+) -> Option<usize>
     requires { Nearby c position low a.0 rows.now there }
     ensures { (result ≡ scan (wanted written a) c rows.now (position - 0) position) × Within position result }
 {
     if there {
-        let Found::At(j) = scan_few(rows, c, low, position, a, written) else {
+        let Some(j) = scan_few(rows, c, low, position, a, written) else {
             return scan_part(rows, c, 0, low, a, written);
         };
-        return Found::At(j);
+        return Some(j);
     }
     scan_part(rows, c, 0, low, a, written)
 }
@@ -145,41 +173,41 @@ fn scan_above(
     there: bool,
     a: Address,
     written: bool,
-) -> Found
+) -> Option<usize>
     requires { Nearby c position low a.0 rows.now there }
     ensures { (result ≡ scan (wanted written a) c rows.now (c - (position + 1)) c) × Within c result }
 {
     let high = low + flat::BLOCK;
-    let Found::At(j) = scan_part(rows, c, high, c, a, written) else {
+    let Some(j) = scan_part(rows, c, high, c, a, written) else {
         if there {
             return scan_few(rows, c, position + 1, high, a, written);
         }
-        return Found::Nothing;
+        return None;
     };
-    Found::At(j)
+    Some(j)
 }
 
 // The first such row before the position, going round: below it, else above it; a table that is shorter than a block row by row.
-fn scan(rows: &[u32], c: usize, position: usize, a: Address, written: bool) -> Found
+fn scan(rows: &[u32], c: usize, position: usize, a: Address, written: bool) -> Option<usize>
     requires { (length rows.now ≡ row_numbers * c) × (position < c) }
     ensures { (result ≡ scan (wanted written a) c rows.now (c - 1) position) × Within c result }
 {
     if c < flat::BLOCK {
-        let Found::At(i) = scan_few(rows, c, 0, position, a, written) else {
+        let Some(i) = scan_few(rows, c, 0, position, a, written) else {
             return scan_few(rows, c, position + 1, c, a, written);
         };
-        return Found::At(i);
+        return Some(i);
     }
     let low = block_with(position, c);
     let there = near(rows, c, position, low, a);
-    let Found::At(i) = scan_below(rows, c, position, low, there, a, written) else {
+    let Some(i) = scan_below(rows, c, position, low, there, a, written) else {
         return scan_above(rows, c, position, low, there, a, written);
     };
-    Found::At(i)
+    Some(i)
 }
 
 // The newest live row of this address, as the row at the position arrives.
-pub fn newest_live(rows: &[u32], c: usize, position: usize, a: Address) -> Found
+pub fn newest_live(rows: &[u32], c: usize, position: usize, a: Address) -> Option<usize>
     requires { (length rows.now ≡ row_numbers * c) × (position < c) }
     ensures { (result ≡ scan (is_of a) c rows.now (c - 1) position) × Within c result }
 {
@@ -187,7 +215,7 @@ pub fn newest_live(rows: &[u32], c: usize, position: usize, a: Address) -> Found
 }
 
 // The newest live write to this address, as the row at the position retires.
-pub fn newest_write(rows: &[u32], c: usize, position: usize, a: Address) -> Found
+pub fn newest_write(rows: &[u32], c: usize, position: usize, a: Address) -> Option<usize>
     requires { (length rows.now ≡ row_numbers * c) × (position < c) }
     ensures { (result ≡ scan (writes a) c rows.now (c - 1) position) × Within c result }
 {

@@ -1,4 +1,5 @@
 -- Retirement and arrival keep rows and buffers good. Assumes nothing.
+use Rattle.std.specs.Prelude.{Option, Some, None}
 use Prim.Native.Nat.{ℕ, ◌-◌, ◌<◌}
 use native.Mathlib.Omega.{arith}
 use mathlib.Core.Path.{◌≡◌, refl}
@@ -14,12 +15,9 @@ use Rattle.map.proofs.Split.{within_memory}
 use Rattle.port.specs.declared.Operation.{Operation}
 use Rattle.port.specs.declared.Operation.TheVariants.{Idle, Read, Write}
 use Rattle.model.specs.declared.Row.{Row}
-use Rattle.model.specs.declared.Found.{Found}
-use Rattle.model.specs.declared.Found.TheVariants.{At, Nothing}
+use Rattle.model.specs.declared.Entry.{Entry}
 use Rattle.model.specs.Lent.{Lent, Buffers, write_kind, read_kind, waiting_kind, row_with, row_at, empty_row}
 use Rattle.model.specs.Range.{row_ok, entry_ok, GoodRows, GoodBuffers, Good}
-use Rattle.model.specs.declared.Placing.{Placing}
-use Rattle.model.specs.declared.Placing.TheVariants.{NoEntry, OneEntry}
 use Rattle.model.specs.declared.Plan.{Plan}
 use Rattle.model.specs.Cycle.{is_of, newest_live, newest_write, placed_if, write_of, read_of, given_up_write, retired, read_plan, merged_row, merged_plan, planned, Arrived, seated, arrived}
 use Rattle.model.specs.Calls.{address_ok}
@@ -45,17 +43,17 @@ module _ (s : Setup) (r : Ranges s) (a : Address) where
 -- Retirement
 
 module _ (s : Setup) (r : Ranges s) (q : Buffers) (g : GoodBuffers s q) where
-  retired-write_good : (x : Row) (f : Found) → GoodBuffers s (placed_if s (given_up_write s x f) q).1
-  retired-write_good x (At i) = g
-  retired-write_good x Nothing =
+  retired-write_good : (x : Row) (f : Option ℕ) → GoodBuffers s (placed_if s (given_up_write s x f) q).1
+  retired-write_good x (Some i) = g
+  retired-write_good x None =
       placed_good s (write_of s x.address x.word) q g (write-entry_ok s r x.address x.word)
 
   pub retired_buffers_good : (position : ℕ) (rows : List ℕ) → GoodBuffers s (retired s position rows q).1
   unfolding retired
   retired_buffers_good position rows =
       let x : Row = row_at s.c rows position in
-      pick_good (λ (p : Placing). GoodBuffers s (placed_if s p q).1) (eqb s.mode 1)
-      (pick_good (λ (p : Placing). GoodBuffers s (placed_if s p q).1) (eqb x.kind write_kind)
+      pick_good (λ (p : Option Entry). GoodBuffers s (placed_if s p q).1) (eqb s.mode 1)
+      (pick_good (λ (p : Option Entry). GoodBuffers s (placed_if s p q).1) (eqb x.kind write_kind)
       (retired-write_good x (newest_write s position x.address rows))
       g)
       g
@@ -91,9 +89,9 @@ merged-row_ok n c a r h ok =
 -- Arrival
 
 -- the row of a plan, and the entry that it places, are in range
-abbrev PlacingOk : Setup → Placing → Type 0
-PlacingOk s NoEntry = Unit {0}
-PlacingOk s (OneEntry e) = entry_ok (words_of s) s.c e ≡ true
+abbrev PlacingOk : Setup → Option Entry → Type 0
+PlacingOk s None = Unit {0}
+PlacingOk s (Some e) = entry_ok (words_of s) s.c e ≡ true
 
 abbrev PlanOk : Setup → Plan → Type 0
 PlanOk s p = (row_ok (words_of s) s.c p.row ≡ true) × PlacingOk s p.placing
@@ -102,10 +100,10 @@ module _ (s : Setup) (r : Ranges s) (position : ℕ) (h : position < s.c) (rows 
   read-plan_ok : (a : Address) → a.0 < words_of s → PlanOk s (read_plan s position a)
   read-plan_ok a l = (waiting_row_ok (words_of s) s.c a.0 l position h, read-entry_ok s r a position h)
 
-  merged-plan_ok : (a : Address) → a.0 < words_of s → (f : Found) → ((i : ℕ) → f ≡ At i → i < s.c)
+  merged-plan_ok : (a : Address) → a.0 < words_of s → (f : Option ℕ) → ((i : ℕ) → f ≡ Some i → i < s.c)
       → PlanOk s (merged_plan s position a f rows)
-  merged-plan_ok a l (At i) m = (merged-row_ok (words_of s) s.c a (row_at s.c rows i) l (gr.ok i (m i refl)), tt)
-  merged-plan_ok a l Nothing m = read-plan_ok a l
+  merged-plan_ok a l (Some i) m = (merged-row_ok (words_of s) s.c a (row_at s.c rows i) l (gr.ok i (m i refl)), tt)
+  merged-plan_ok a l None m = read-plan_ok a l
 
   planned_ok : (op : Operation) → address_ok s op ≡ true → PlanOk s (planned s position op rows)
   planned_ok Idle t = (empty_row_ok (words_of s) s.c, tt)
@@ -132,9 +130,9 @@ module _ (s : Setup) (position : ℕ) (h : position < s.c) (rows : List ℕ) (gr
     gw,
   )
 
-  placed_if_good : (p : Placing) → PlacingOk s p → GoodBuffers s (placed_if s p q).1
-  placed_if_good NoEntry ok = gq
-  placed_if_good (OneEntry e) ok = placed_good s e q gq ok
+  placed_if_good : (p : Option Entry) → PlacingOk s p → GoodBuffers s (placed_if s p q).1
+  placed_if_good None ok = gq
+  placed_if_good (Some e) ok = placed_good s e q gq ok
 
   pub arrived_parts_good : (p : Plan) → PlanOk s p → Kept s (arrived s position p rows q)
   unfolding arrived

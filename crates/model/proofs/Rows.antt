@@ -1,4 +1,5 @@
 -- The rows stay good: a row put in range, the words that service brings, and what a lookup finds. Assumes nothing.
+use Rattle.std.specs.Prelude.{Option, Some}
 use Prim.Native.Nat.{ℕ, zero, suc, ◌*◌, ◌≤◌, ◌<◌}
 use native.Mathlib.Nat.{not-suc-le-zero}
 use native.Mathlib.Omega.{arith}
@@ -14,8 +15,6 @@ use Rattle.setup.specs.Setup.{words_of}
 use Rattle.setup.specs.declared.Setup.{Setup}
 use Rattle.setup.proofs.Ranges.{and_l}
 use Rattle.model.specs.declared.Row.{Row}
-use Rattle.model.specs.declared.Found.{Found}
-use Rattle.model.specs.declared.Found.TheVariants.{At}
 use Rattle.rings.specs.Places.{back}
 use Rattle.model.specs.Lent.{row_numbers, waiting_kind, row_at, put_row}
 use Rattle.model.specs.Range.{row_ok, GoodRows, Within}
@@ -121,5 +120,5 @@ scan-within f c rows (suc n) i h l =
     let b : back c i 1 < c = back_below c i 1 l (omega arith) in
     pick_good (Within c) (f (row_at c rows (back c i 1))) b (scan-within f c rows n (back c i 1) h b)
 
-pub scan-below : (f : Row → Bool) (c : ℕ) (rows : List ℕ) (n i : ℕ) {j : ℕ} → i < c → scan f c rows n i ≡ At j → j < c
-scan-below f c rows n i l e = subst (λ (x : Found). Within c x) e (scan-within f c rows n i (omega arith) l)
+pub scan-below : (f : Row → Bool) (c : ℕ) (rows : List ℕ) (n i : ℕ) {j : ℕ} → i < c → scan f c rows n i ≡ Some j → j < c
+scan-below f c rows n i l e = subst (λ (x : Option ℕ). Within c x) e (scan-within f c rows n i (omega arith) l)

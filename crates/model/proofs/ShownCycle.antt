@@ -1,4 +1,5 @@
 -- Delivery, retirement and arrival as they are shown. Assumes nothing.
+use Rattle.std.specs.Prelude.{Option, Some, None}
 use Prim.Native.Nat.{ℕ, suc, ◌-◌, ◌≤◌, ◌<◌}
 use native.Mathlib.Omega.{arith}
 use mathlib.Core.Path.{◌≡◌, refl, sym, ap, ◌∙◌}
@@ -19,10 +20,6 @@ use Rattle.port.specs.declared.Operation.TheVariants.{Idle, Read, Write}
 use Rattle.model.specs.declared.State.{State}
 use Rattle.model.specs.declared.Row.{Row}
 use Rattle.model.specs.declared.Entry.{Entry}
-use Rattle.model.specs.declared.Found.{Found}
-use Rattle.model.specs.declared.Found.TheVariants.{At, Nothing}
-use Rattle.model.specs.declared.Placing.{Placing}
-use Rattle.model.specs.declared.Placing.TheVariants.{NoEntry, OneEntry}
 use Rattle.rings.specs.Places.{back}
 use Rattle.model.specs.Lent.{Lent, Buffers, empty_kind, write_kind, read_kind, waiting_kind, row_with, row_at, empty_row, count_of}
 use Rattle.model.specs.Range.{row_ok, GoodRows, Good}
@@ -112,11 +109,11 @@ module _ (s : Setup) (t : State) (x : Lent) (g : Good s x) where
         (newer-shown s g.ranges a l x.rows g.rows (s.c - 1) t.position h)
         ∙ go (newest_write s t.position a x.rows)
       where
-        go : (f : Found)
+        go : (f : Option ℕ)
             → shed_c (is_found f) (room_c s.k (bank_of (map_of s) (cell_of (map_of s) a)) (shown s t x)) (bank_of (map_of s) (cell_of (map_of s) a)) (wr (cell_of (map_of s) a).0 w) (shown s t x)
             ≡ shown_kept s t x (placed_if s (given_up_write s (row_with write_kind a.0 w link) f) x.buffers)
-        go (At i) = refl
-        go Nothing = shed-shown (write_of s a w)
+        go (Some i) = refl
+        go None = shed-shown (write_of s a w)
 
     retire-row : (r : Row) → row_ok (words_of s) s.c r ≡ true
         → retire_row_c (config_of s) s.k (shown_row s r) (shown s t x) ≡ shown_kept s t x (placed_if s (given_up_row s t.position r x.rows) x.buffers)
@@ -139,7 +136,7 @@ module _ (s : Setup) (t : State) (x : Lent) (g : Good s x) where
     retirement_shown = go (merging s)
       where
         go : (m : Bool) → retire_c m (config_of s) s.k (shown s t x)
-            ≡ shown_kept s t x (placed_if s (pick m (given_up_row s t.position (row_at s.c x.rows t.position) x.rows) NoEntry) x.buffers)
+            ≡ shown_kept s t x (placed_if s (pick m (given_up_row s t.position (row_at s.c x.rows t.position) x.rows) None) x.buffers)
         go true =
             ap (λ (r : machine.Row ℕ). retire_row_c (config_of s) s.k r (shown s t x)) (tab_at s x.rows t.position h)
             ∙ retire-row (row_at s.c x.rows t.position) (g.rows.ok t.position h)
@@ -153,13 +150,13 @@ pub retired_unmoved : (s : Setup) (position : ℕ) (rows : List ℕ) (q : Buffer
 unfolding retired placed
 retired_unmoved s position rows q =
     let r : Row = row_at s.c rows position in
-    pick_good (λ (p : Placing). Unmoved q (placed_if s p q)) (merging s)
-    (pick_good (λ (p : Placing). Unmoved q (placed_if s p q)) (eqb r.kind write_kind) (go (newest_write s position r.address rows)) (λ e. refl))
+    pick_good (λ (p : Option Entry). Unmoved q (placed_if s p q)) (merging s)
+    (pick_good (λ (p : Option Entry). Unmoved q (placed_if s p q)) (eqb r.kind write_kind) (go (newest_write s position r.address rows)) (λ e. refl))
     (λ e. refl)
   where
-    go : (f : Found) → Unmoved q (placed_if s (given_up_write s (row_at s.c rows position) f) q)
-    go (At i) = λ e. refl
-    go Nothing =
+    go : (f : Option ℕ) → Unmoved q (placed_if s (given_up_write s (row_at s.c rows position) f) q)
+    go (Some i) = λ e. refl
+    go None =
         let r : Row = row_at s.c rows position in
         pick_good (Unmoved q) (eqb (count_of q.heads (bank_of (map_of s) (cell_of (map_of s) r.address))) s.k) (λ e. refl) (λ e. absurd (false≢true (sym e)))
 
@@ -198,13 +195,13 @@ module _ (s : Setup) (t : State) (turn : t.turn < s.m) (h : t.position < s.c) wh
       (ap (λ (c : ℕ). concrete.onward c t.position) n ∙ onward-shown s.c t.position h)
 
   module _ (x : Lent) (g : Good s x) where
-    only_shown : (r : Row) → land s t x (only (shown_row s r)) ≡ shown_landed s t x (arrived s t.position (plan_with r NoEntry) x.rows x.buffers)
+    only_shown : (r : Row) → land s t x (only (shown_row s r)) ≡ shown_landed s t x (arrived s t.position (plan_with r None) x.rows x.buffers)
     unfolding arrived
     only_shown r = ap (landed true) (note-shown x g.rows r)
 
     seat-shown : (e : Entry) (r : Row)
         → land s t x (needs (bank_of (map_of s) e.cell) (shown_entry e) (shown_row s r))
-        ≡ shown_landed s t x (arrived s t.position (plan_with r (OneEntry e)) x.rows x.buffers)
+        ≡ shown_landed s t x (arrived s t.position (plan_with r (Some e)) x.rows x.buffers)
     unfolding arrived
     seat-shown e r =
         let b : ℕ = bank_of (map_of s) e.cell in
@@ -221,26 +218,26 @@ module _ (s : Setup) (t : State) (turn : t.turn < s.m) (h : t.position < s.c) wh
     -- a read that finds the row r live
     echo-shown : (a : Address) (r : Row) → r.kind ≤ waiting_kind → is_of a r ≡ true
         → land s t x (echoed s t x a (shown_row s r))
-        ≡ shown_landed s t x (arrived s t.position (plan_with (merged_row a r) NoEntry) x.rows x.buffers)
+        ≡ shown_landed s t x (arrived s t.position (plan_with (merged_row a r) None) x.rows x.buffers)
     echo-shown a r =
         by_kind
         (λ (k : ℕ). is_of a (of_kind r k) ≡ true
         → land s t x (echoed s t x a (shown_row s (of_kind r k)))
-        ≡ shown_landed s t x (arrived s t.position (plan_with (merged_row a (of_kind r k)) NoEntry) x.rows x.buffers))
+        ≡ shown_landed s t x (arrived s t.position (plan_with (merged_row a (of_kind r k)) None) x.rows x.buffers))
         (λ e. absurd (false≢true e))
         (λ e. only_shown (row_with read_kind a.0 r.word 0))
         (λ e. only_shown (row_with read_kind a.0 r.word 0))
         (λ e. only_shown (row_with waiting_kind a.0 0 r.link))
         r.kind
 
-    merge-shown : (a : Address) (f : Found) → ((i : ℕ) → f ≡ At i → (i < s.c) × (is_of a (row_at s.c x.rows i) ≡ true))
+    merge-shown : (a : Address) (f : Option ℕ) → ((i : ℕ) → f ≡ Some i → (i < s.c) × (is_of a (row_at s.c x.rows i) ≡ true))
         → land s t x (merged s t x a (shown_found f))
         ≡ shown_landed s t x (arrived s t.position (merged_plan s t.position a f x.rows) x.rows x.buffers)
-    merge-shown a (At i) n =
+    merge-shown a (Some i) n =
         let l : i < s.c = (n i refl).0 in
         ap (λ (r : machine.Row ℕ). land s t x (echoed s t x a r)) (tab_at s x.rows i l)
         ∙ echo-shown a (row_at s.c x.rows i) (row_kind (words_of s) s.c (row_at s.c x.rows i) (g.rows.ok i l)) (n i refl).1
-    merge-shown a Nothing n = seat-shown (read_of s t.position a) (row_with waiting_kind a.0 0 t.position)
+    merge-shown a None n = seat-shown (read_of s t.position a) (row_with waiting_kind a.0 0 t.position)
 
     read-shown : (a : Address) → a.0 < words_of s → (m : Bool)
         → arrive_c m (config_of s) s.k (read (cell_of (map_of s) a).0) (shown s t x)
@@ -256,7 +253,7 @@ module _ (s : Setup) (t : State) (turn : t.turn < s.m) (h : t.position < s.c) wh
     write-shown : (a : Address) (w : ℕ) (m : Bool)
         → arrive_c m (config_of s) s.k (write (cell_of (map_of s) a).0 w) (shown s t x)
         ≡ shown_landed s t x
-        (arrived s t.position (plan_with (row_with write_kind a.0 w 0) (pick m NoEntry (OneEntry (write_of s a w)))) x.rows x.buffers)
+        (arrived s t.position (plan_with (row_with write_kind a.0 w 0) (pick m None (Some (write_of s a w)))) x.rows x.buffers)
     write-shown a w true = only_shown (row_with write_kind a.0 w 0)
     write-shown a w false = seat-shown (write_of s a w) (row_with write_kind a.0 w 0)
 

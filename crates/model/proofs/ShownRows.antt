@@ -1,4 +1,5 @@
 -- Rows and the table as they are shown: a row put, the words that service brings, and what a lookup finds. Assumes nothing.
+use Rattle.std.specs.Prelude.{Option, Some, None}
 use Prim.Native.Nat.{ℕ, zero, suc, ◌-◌, ◌≤◌, ◌<◌}
 use native.Mathlib.Omega.{arith}
 use mathlib.Core.Path.{◌≡◌, refl, sym, ap, subst, ◌∙◌}
@@ -13,8 +14,6 @@ use Rattle.setup.specs.declared.Setup.{Setup}
 use Rattle.map.specs.Map.{cell_of}
 use Rattle.map.specs.declared.Address.{Address}
 use Rattle.model.specs.declared.Row.{Row}
-use Rattle.model.specs.declared.Found.{Found}
-use Rattle.model.specs.declared.Found.TheVariants.{At, Nothing}
 use Rattle.rings.specs.Places.{back}
 use Rattle.model.specs.Lent.{empty_kind, write_kind, read_kind, waiting_kind, row_with, row_at, put_row}
 use Rattle.model.specs.Range.{row_ok, GoodRows}
@@ -127,26 +126,26 @@ module _ (s : Setup) (rows : List ℕ) where
 ------------------------------------------------------------------------
 -- Looking back
 
-abbrev pub shown_found : Found → machine.Found
-shown_found (At i) = there i
-shown_found Nothing = nothing
+abbrev pub shown_found : Option ℕ → machine.Found
+shown_found (Some i) = there i
+shown_found None = nothing
 
-abbrev pub is_found : Found → Bool
-is_found (At i) = true
-is_found Nothing = false
+abbrev pub is_found : Option ℕ → Bool
+is_found (Some i) = true
+is_found None = false
 
 -- a lookup there: the places before i, newest first, each by a test of its row
-module _ (s : Setup) (rows : List ℕ) (test : machine.Row ℕ → Bool) {R : Type 0} (seen : Found → R) (look : ℕ → ℕ → R) where
+module _ (s : Setup) (rows : List ℕ) (test : machine.Row ℕ → Bool) {R : Type 0} (seen : Option ℕ → R) (look : ℕ → ℕ → R) where
   -- place p is looked at, and then the n before it
   abbrev looked_at : ℕ → ℕ → R
-  looked_at n p = cond (test (get_or (shown_tab s rows) p none)) (seen (At p)) (look n p)
+  looked_at n p = cond (test (get_or (shown_tab s rows) p none)) (seen (Some p)) (look n p)
 
-  look_step : (b : Bool) (p : ℕ) (x : Found) {y : R} → y ≡ seen x → cond b (seen (At p)) y ≡ seen (pick b (At p) x)
+  look_step : (b : Bool) (p : ℕ) (x : Option ℕ) {y : R} → y ≡ seen x → cond b (seen (Some p)) y ≡ seen (pick b (Some p) x)
   look_step true p x e = refl
   look_step false p x e = e
 
   -- where the test agrees with f, it sees what the scan with f finds
-  module _ (f : Row → Bool) (agree : (i : ℕ) → i < s.c → test (shown_row s (row_at s.c rows i)) ≡ f (row_at s.c rows i)) (end : (i : ℕ) → look 0 i ≡ seen Nothing) (more : (n i : ℕ) → look (suc n) i ≡ looked_at n (table.back (s.c - 1) i)) where
+  module _ (f : Row → Bool) (agree : (i : ℕ) → i < s.c → test (shown_row s (row_at s.c rows i)) ≡ f (row_at s.c rows i)) (end : (i : ℕ) → look 0 i ≡ seen None) (more : (n i : ℕ) → look (suc n) i ≡ looked_at n (table.back (s.c - 1) i)) where
     look-back : (n i : ℕ) → i < s.c → look n i ≡ seen (scan f s.c rows n i)
     unfolding scan
     look-back zero i l = end i
@@ -155,7 +154,7 @@ module _ (s : Setup) (rows : List ℕ) (test : machine.Row ℕ → Bool) {R : Ty
         let b : p < s.c = back_below s.c i 1 l (omega arith) in
         more n i
         ∙ ap (looked_at n) (back-shown s.c i (omega arith))
-        ∙ ap (λ (t : Bool). cond t (seen (At p)) (look n p)) (ap test (tab_at s rows p b) ∙ agree p b)
+        ∙ ap (λ (t : Bool). cond t (seen (Some p)) (look n p)) (ap test (tab_at s rows p b) ∙ agree p b)
         ∙ look_step (f (row_at s.c rows p)) p (scan f s.c rows n p) (look-back n p b)
 
 module _ (s : Setup) (g : Ranges s) (a : Address) (h : a.0 < words_of s) (rows : List ℕ) (ok : GoodRows s rows) where
@@ -178,9 +177,9 @@ module _ (s : Setup) (g : Ranges s) (a : Address) (h : a.0 < words_of s) (rows :
       (λ n i. refl)
 
 -- what a lookup finds is such a row
-abbrev Holds : (Row → Bool) → ℕ → List ℕ → Found → Type 0
-Holds f c rows (At i) = f (row_at c rows i) ≡ true
-Holds f c rows Nothing = Unit
+abbrev Holds : (Row → Bool) → ℕ → List ℕ → Option ℕ → Type 0
+Holds f c rows (Some i) = f (row_at c rows i) ≡ true
+Holds f c rows None = Unit
 
 scan_finds : (f : Row → Bool) (c : ℕ) (rows : List ℕ) (n i : ℕ) → Holds f c rows (scan f c rows n i)
 unfolding scan
@@ -188,5 +187,5 @@ scan_finds f c rows zero i = tt
 scan_finds f c rows (suc n) i =
     pick_either (Holds f c rows) (f (row_at c rows (back c i 1))) (λ e. e) (λ e. scan_finds f c rows n (back c i 1))
 
-pub scan_holds : (f : Row → Bool) (c : ℕ) (rows : List ℕ) (n i : ℕ) {j : ℕ} → scan f c rows n i ≡ At j → f (row_at c rows j) ≡ true
+pub scan_holds : (f : Row → Bool) (c : ℕ) (rows : List ℕ) (n i : ℕ) {j : ℕ} → scan f c rows n i ≡ Some j → f (row_at c rows j) ≡ true
 scan_holds f c rows n i e = subst (Holds f c rows) e (scan_finds f c rows n i)

@@ -1,5 +1,5 @@
 -- The document's "One cycle": service, delivery, retirement, arrival, in this order. On a state that no run produces it goes by the same words.
-use Rattle.std.specs.Prelude.{ℕ, zero, suc, ◌+◌, ◌-◌, ◌*◌, ◌%◌, ◌^◌, Bool, true, false, not, ◌&&◌, ◌||◌, List, eqb, get_or, set}
+use Rattle.std.specs.Prelude.{ℕ, zero, suc, ◌+◌, ◌-◌, ◌*◌, ◌%◌, ◌^◌, Bool, true, false, not, ◌&&◌, ◌||◌, List, eqb, get_or, set, Option, Some, None}
 use Rattle.answers.specs.Answers.{done, dropped, stopping}
 use Rattle.choice.specs.Choice.{pick}
 use Rattle.setup.specs.Setup.{merging, map_of, banks_of}
@@ -9,14 +9,10 @@ use Rattle.map.specs.declared.Address.{Address}
 use Rattle.port.specs.declared.Operation.{Operation}
 use Rattle.port.specs.declared.Operation.TheVariants.{Idle, Read, Write}
 use Rattle.port.specs.declared.Delivery.{Delivery}
-use Rattle.port.specs.declared.Delivery.TheVariants.{None, Unready, Word}
+use Rattle.port.specs.declared.Delivery.TheVariants as delivery
 use Rattle.model.specs.declared.State.{State}
 use Rattle.model.specs.declared.Row.{Row}
 use Rattle.model.specs.declared.Entry.{Entry}
-use Rattle.model.specs.declared.Found.{Found}
-use Rattle.model.specs.declared.Found.TheVariants.{At, Nothing}
-use Rattle.model.specs.declared.Placing.{Placing}
-use Rattle.model.specs.declared.Placing.TheVariants.{NoEntry, OneEntry}
 use Rattle.model.specs.declared.Plan.{Plan}
 use Rattle.model.specs.declared.Cycled.{Cycled}
 use Rattle.rings.specs.Places.{onward, back}
@@ -80,7 +76,7 @@ served s turn x = served_below s turn (banks_of s) x
 
 -- a read with a word delivers it, a read without one delivers "unready", and a write or an empty row delivers none
 abbrev pub leaves : Row → Delivery
-leaves r = pick (eqb r.kind read_kind) (Word r.word) (pick (eqb r.kind waiting_kind) Unready None)
+leaves r = pick (eqb r.kind read_kind) (delivery.Word r.word) (pick (eqb r.kind waiting_kind) delivery.Unready delivery.None)
 
 abbrev pub delivered : Setup → ℕ → List ℕ → Delivery
 delivered s position rows = leaves (row_at s.c rows (back s.c position s.delta))
@@ -89,10 +85,10 @@ delivered s position rows = leaves (row_at s.c rows (back s.c position s.delta))
 -- Looking back through the table, newest first, and placing an entry
 
 -- the first such row among the n places before i
-unfoldable pub scan : (Row → Bool) → ℕ → List ℕ → ℕ → ℕ → Found
-scan f c rows zero i = Nothing
+unfoldable pub scan : (Row → Bool) → ℕ → List ℕ → ℕ → ℕ → Option ℕ
+scan f c rows zero i = None
 scan f c rows (suc n) i =
-    pick (f (row_at c rows (back c i 1))) (At (back c i 1)) (scan f c rows n (back c i 1))
+    pick (f (row_at c rows (back c i 1))) (Some (back c i 1)) (scan f c rows n (back c i 1))
 
 -- a row of this address: whole addresses are compared
 abbrev pub is_of : Address → Row → Bool
@@ -102,10 +98,10 @@ abbrev pub writes : Address → Row → Bool
 writes a r = eqb r.kind write_kind && eqb r.address.0 a.0
 
 -- the live rows that are newer than the row at the position are the C − 1 before it
-abbrev pub newest_live : Setup → ℕ → Address → List ℕ → Found
+abbrev pub newest_live : Setup → ℕ → Address → List ℕ → Option ℕ
 newest_live s position a rows = scan (is_of a) s.c rows (s.c - 1) position
 
-abbrev pub newest_write : Setup → ℕ → Address → List ℕ → Found
+abbrev pub newest_write : Setup → ℕ → Address → List ℕ → Option ℕ
 newest_write s position a rows = scan (writes a) s.c rows (s.c - 1) position
 
 -- first in, first out: behind the last entry of bank b's buffer
@@ -122,9 +118,9 @@ placed s e q =
     (true, placed_at s (bank_of (map_of s) e.cell) e q)
 
 -- what is to be placed, if anything is
-abbrev pub placed_if : Setup → Placing → Buffers → Bool × Buffers
-placed_if s NoEntry q = (true, q)
-placed_if s (OneEntry e) q = placed s e q
+abbrev pub placed_if : Setup → Option Entry → Buffers → Bool × Buffers
+placed_if s None q = (true, q)
+placed_if s (Some e) q = placed s e q
 
 -- write entries carry their own cell and word
 abbrev pub write_of : Setup → Address → ℕ → Entry
@@ -137,18 +133,18 @@ read_of s position a = entry_with read_entry position (cell_of (map_of s) a).0 0
 -- 3. Retirement. The row filled at t − C is given up.
 
 -- if no newer live row is a write to its address, a write entry is placed in its bank's buffer
-abbrev pub given_up_write : Setup → Row → Found → Placing
-given_up_write s r (At i) = NoEntry
-given_up_write s r Nothing = OneEntry (write_of s r.address r.word)
+abbrev pub given_up_write : Setup → Row → Option ℕ → Option Entry
+given_up_write s r (Some i) = None
+given_up_write s r None = Some (write_of s r.address r.word)
 
 -- if it is a write
-abbrev pub given_up_row : Setup → ℕ → Row → List ℕ → Placing
+abbrev pub given_up_row : Setup → ℕ → Row → List ℕ → Option Entry
 given_up_row s position r rows =
-    pick (eqb r.kind write_kind) (given_up_write s r (newest_write s position r.address rows)) NoEntry
+    pick (eqb r.kind write_kind) (given_up_write s r (newest_write s position r.address rows)) None
 
 -- in merging mode
-abbrev pub given_up : Setup → ℕ → List ℕ → Placing
-given_up s position rows = pick (merging s) (given_up_row s position (row_at s.c rows position) rows) NoEntry
+abbrev pub given_up : Setup → ℕ → List ℕ → Option Entry
+given_up s position rows = pick (merging s) (given_up_row s position (row_at s.c rows position) rows) None
 
 -- false where a retiring write needs a place and its buffer holds K
 unfoldable pub retired : Setup → ℕ → List ℕ → Buffers → Bool × Buffers
@@ -157,29 +153,29 @@ retired s position rows q = placed_if s (given_up s position rows) q
 ------------------------------------------------------------------------
 -- 4. Arrival. The operation is idle, a read or a write, and fills the row of cycle t.
 
-abbrev pub plan_with : Row → Placing → Plan
+abbrev pub plan_with : Row → Option Entry → Plan
 plan_with row placing = record { row = row; placing = placing }
 
 -- a read places an entry, and its row waits on itself
 abbrev pub read_plan : Setup → ℕ → Address → Plan
-read_plan s position a = plan_with (row_with waiting_kind a.0 0 position) (OneEntry (read_of s position a))
+read_plan s position a = plan_with (row_with waiting_kind a.0 0 position) (Some (read_of s position a))
 
 -- a write there, or a read with its word, gives the word at once; a read still waiting makes the new row wait on the row whose entry is in the buffer
 abbrev pub merged_row : Address → Row → Row
 merged_row a r = pick (eqb r.kind waiting_kind) (row_with waiting_kind a.0 0 r.link) (row_with read_kind a.0 r.word 0)
 
 -- merging, a read looks for the newest live row of its address; with nothing live, the read places an entry
-abbrev pub merged_plan : Setup → ℕ → Address → Found → List ℕ → Plan
-merged_plan s position a (At i) rows = plan_with (merged_row a (row_at s.c rows i)) NoEntry
-merged_plan s position a Nothing rows = read_plan s position a
+abbrev pub merged_plan : Setup → ℕ → Address → Option ℕ → List ℕ → Plan
+merged_plan s position a (Some i) rows = plan_with (merged_row a (row_at s.c rows i)) None
+merged_plan s position a None rows = read_plan s position a
 
 -- merging, a write places nothing; plain, it places an entry
 abbrev pub write_plan : Setup → Address → ℕ → Plan
-write_plan s a w = plan_with (row_with write_kind a.0 w 0) (pick (merging s) NoEntry (OneEntry (write_of s a w)))
+write_plan s a w = plan_with (row_with write_kind a.0 w 0) (pick (merging s) None (Some (write_of s a w)))
 
 -- what the operation is to do, once the rows are looked at
 abbrev pub planned : Setup → ℕ → Operation → List ℕ → Plan
-planned s position Idle rows = plan_with empty_row NoEntry
+planned s position Idle rows = plan_with empty_row None
 planned s position (Read a) rows =
     pick (merging s) (merged_plan s position a (newest_live s position a rows) rows) (read_plan s position a)
 planned s position (Write a w) rows = write_plan s a w

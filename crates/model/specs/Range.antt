@@ -1,13 +1,11 @@
 -- What the answers 2 and 3 look at.
-use Rattle.std.specs.Prelude.{ℕ, zero, suc, ◌+◌, ◌*◌, ◌<◌, Bool, true, not, ◌&&◌, ◌||◌, List, leb, ltb, eqb, length, replicate, ◌≡◌}
+use Rattle.std.specs.Prelude.{ℕ, zero, suc, ◌+◌, ◌*◌, ◌<◌, Bool, true, not, ◌&&◌, ◌||◌, List, leb, ltb, eqb, length, replicate, ◌≡◌, Option, Some, None}
 use Rattle.setup.specs.Setup.{Ranges, words_of, banks_of}
 use Rattle.setup.specs.declared.Setup.{Setup}
 use Rattle.model.specs.declared.State.{State}
 use Rattle.model.specs.declared.Lengths.{Lengths}
 use Rattle.model.specs.declared.Row.{Row}
 use Rattle.model.specs.declared.Entry.{Entry}
-use Rattle.model.specs.declared.Found.{Found}
-use Rattle.model.specs.declared.Found.TheVariants.{At, Nothing}
 use Rattle.rings.specs.Places.{onward}
 use Rattle.model.specs.Lent.{Lent, lent, Buffers, row_numbers, entry_numbers, head_numbers, empty_kind, waiting_kind, row_at, read_entry, write_entry, entry_at, oldest_of, count_of}
 
@@ -110,6 +108,6 @@ pub record Ready (s : Setup) (t : State) (x : Lent) : Type 0 where
   pub position : t.position < s.c
 
 -- a row's place that a lookup answers is one of the c
-abbrev pub Within : ℕ → Found → Type 0
-Within c (At i) = i < c
-Within c Nothing = Unit
+abbrev pub Within : ℕ → Option ℕ → Type 0
+Within c (Some i) = i < c
+Within c None = Unit

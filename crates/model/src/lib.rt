@@ -97,25 +97,11 @@ impl Head {
     pub const COUNT: usize = 1;
 }
 
-// What a lookup in the table answers: a row's place, or that nothing is live.
-#[derive(Clone, Copy)]
-pub enum Found {
-    At(usize),
-    Nothing,
-}
-
-// What retirement or arrival places: no entry, or one.
-#[derive(Clone, Copy)]
-pub enum Placing {
-    NoEntry,
-    OneEntry(Entry),
-}
-
-// What an operation is to do at its arrival: the row that it fills, and what it places.
+// What an operation is to do at its arrival: the row that it fills, and the entry that it places, if any.
 #[derive(Clone, Copy)]
 pub struct Plan {
     pub row: Row,
-    pub placing: Placing,
+    pub placing: Option<Entry>,
 }
 
 // What 1, 2 and 3 look at stands, under the setup with its defaults in; or the first of them that refuses.

@@ -6,11 +6,10 @@ ghost use Rattle.answers.specs.Answers.{done, dropped, stopping};
 ghost use Rattle.choice.specs.Choice.{pick};
 ghost use Rattle.setup.specs.Setup.{Ranges};
 ghost use Rattle.model.specs.Lent.{empty_row};
-ghost use Rattle.model.specs.declared.Placing.TheVariants.{NoEntry};
 ghost use Rattle.model.specs.Cycle.{leaves, write_of, read_of, given_up_write, plan_with, read_plan, merged_row, write_plan, next_state, stopped_state, cycled};
 
 use map::Address;
-use model::{Cycled, Entry, Found, Placing, Plan, Row, State};
+use model::{Cycled, Entry, Plan, Row, State};
 use port::{Delivery, Reply};
 use setup::Setup;
 
@@ -62,14 +61,14 @@ fn read_entry(s: Setup, position: u32, a: Address) -> Entry
 // ---- Retirement
 
 // What a retiring write places: its entry, where no newer live row is a write to its address.
-pub fn give_up_write(s: Setup, r: Row, newer: Found) -> Placing
+pub fn give_up_write(s: Setup, r: Row, newer: Option<usize>) -> Option<Entry>
     requires { Ranges s }
     ensures { result ≡ given_up_write s r newer }
 {
-    let Found::At(_) = newer else {
-        return Placing::OneEntry(write_entry(s, r.address, r.word));
-    };
-    Placing::NoEntry
+    match newer {
+        Some(_) => None,
+        None => Some(write_entry(s, r.address, r.word)),
+    }
 }
 
 // ---- Arrival
@@ -87,11 +86,11 @@ fn empty() -> Row
 
 // Idle fills an empty row.
 pub fn plan_idle() -> Plan
-    ensures { result ≡ plan_with empty_row NoEntry }
+    ensures { result ≡ plan_with empty_row None }
 {
     Plan {
         row: empty(),
-        placing: Placing::NoEntry,
+        placing: None,
     }
 }
 
@@ -107,7 +106,7 @@ pub fn plan_read(s: Setup, position: u32, a: Address) -> Plan
             word: 0,
             link: position,
         },
-        placing: Placing::OneEntry(read_entry(s, position, a)),
+        placing: Some(read_entry(s, position, a)),
     }
 }
 
@@ -133,23 +132,23 @@ fn merge_row(a: Address, r: Row) -> Row
 
 // A read that finds a row of its address places nothing.
 pub fn plan_merged(a: Address, r: Row) -> Plan
-    ensures { result ≡ plan_with (merged_row a r) NoEntry }
+    ensures { result ≡ plan_with (merged_row a r) None }
 {
     Plan {
         row: merge_row(a, r),
-        placing: Placing::NoEntry,
+        placing: None,
     }
 }
 
 // What a write places: merging nothing, plain an entry.
-fn place_write(s: Setup, a: Address, word: u32) -> Placing
+fn place_write(s: Setup, a: Address, word: u32) -> Option<Entry>
     requires { Ranges s }
     ensures { result ≡ (write_plan s a word).placing }
 {
     if s.mode == Setup::MERGING {
-        return Placing::NoEntry;
+        return None;
     }
-    Placing::OneEntry(write_entry(s, a, word))
+    Some(write_entry(s, a, word))
 }
 
 // A write fills its row with its word.

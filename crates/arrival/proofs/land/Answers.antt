@@ -1,4 +1,5 @@
 -- `arrival::land` meets its contract: whether the retiring write found its place is the case of the definition. Assumes nothing.
+use Rattle.std.specs.Prelude.{Option, Some, None}
 use Prim.Native.Nat.{ℕ, ◌+◌, ◌*◌, ◌<◌}
 use native.Mathlib.Omega.{arith}
 use mathlib.Core.Path.{◌≡◌, sym, subst}
@@ -16,8 +17,6 @@ use Rattle.port.specs.declared.Operation.{Operation}
 use Rattle.port.specs.declared.Delivery.{Delivery}
 use Rattle.model.specs.declared.State.{State}
 use Rattle.model.specs.declared.Entry.{Entry}
-use Rattle.model.specs.declared.Placing.{Placing}
-use Rattle.model.specs.declared.Placing.TheVariants.{NoEntry, OneEntry}
 use Rattle.model.specs.declared.Cycled.{Cycled}
 use Rattle.model.specs.Lent.{Buffers, head_numbers, oldest_of, count_of}
 use Rattle.model.specs.Cycle.{placed_at, placed_if, planned, arrived, next_state, stopped_state, cycled, going}
@@ -73,9 +72,9 @@ module _ (s : Setup) (q : Buffers) (each : EachBuffer s q) where
           part_within = omega (arith, (each.of j h).part_within, length-put_entry q.entries (next_place s b q) e);
         }
 
-  each_placed : (p : Placing) → EachBuffer s (placed_if s p q).1
-  each_placed NoEntry = each
-  each_placed (OneEntry e) =
+  each_placed : (p : Option Entry) → EachBuffer s (placed_if s p q).1
+  each_placed None = each
+  each_placed (Some e) =
       ⊎_elim
       (λ f. subst (λ (w : Bool × Buffers). EachBuffer s w.1) (sym (placed-full s e q f)) each)
       (λ n. subst (λ (w : Bool × Buffers). EachBuffer s w.1) (sym (placed-room s e q n)) (record { of = buffer_placed e n }))
@@ -84,7 +83,7 @@ module _ (s : Setup) (q : Buffers) (each : EachBuffer s q) where
 ------------------------------------------------------------------------
 
 -- What each return knows
-module _ (s : Setup) (q q' : Buffers) (g : Placing) (ok : Bool) (eg : (ok, q') ≡ placed_if s g q) where
+module _ (s : Setup) (q q' : Buffers) (g : Option Entry) (ok : Bool) (eg : (ok, q') ≡ placed_if s g q) where
   each_after : EachBuffer s q → EachBuffer s q'
   each_after each = subst (λ (w : Bool × Buffers). EachBuffer s w.1) (sym eg) (each_placed s q each g)
 
