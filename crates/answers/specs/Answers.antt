@@ -1,5 +1,7 @@
 -- The document's "Answer numbers".
 use Rattle.std.specs.Prelude.{ℕ}
+use Rattle.answers.specs.declared.Refusal.{Refusal}
+use Rattle.answers.specs.declared.Refusal.TheVariants.{BadSetup, BadLength, BadState, BadAddress, Stopped, RoomTooSmall, BadRecord}
 
 -- the cycle passes and nothing is dropped; or a fresh start, a question or a record is done
 abbrev pub done : ℕ
@@ -40,3 +42,13 @@ room_too_small = 8
 -- a record has the wrong length, is of unknown kind, or has a nonzero byte where zero is due
 abbrev pub bad_record : ℕ
 bad_record = 9
+
+-- the number of each refusal
+abbrev pub number : Refusal → ℕ
+number BadSetup = bad_setup
+number BadLength = bad_length
+number BadState = bad_state
+number BadAddress = bad_address
+number Stopped = stopped
+number RoomTooSmall = room_too_small
+number BadRecord = bad_record

@@ -8,6 +8,7 @@ use Rattle.setup.specs.Setup.{Ranges}
 use Rattle.port.specs.declared.Operation.{Operation}
 use Rattle.port.specs.declared.Delivery.{Delivery}
 use Rattle.model.specs.declared.State.{State}
+use Rattle.model.specs.declared.Entry.{Entry}
 use Rattle.model.specs.declared.Cycled.{Cycled}
 use Rattle.model.specs.Lent.{Buffers, buffers_in}
 use Rattle.model.specs.Cycle.{delivered, placed_if, given_up, retired, planned, going, after_service}
