@@ -7,12 +7,13 @@ use mathlib.Core.List.{List, [], ◌∷◌, ◌++◌}
 use native.Mathlib.Nat.{mod-lt, mod-eq_of_lt, mod-add-mod}
 use native.Mathlib.Numerals.{add-one}
 use native.Mathlib.Omega.{arith}
-use lib.Dec.{eqb}
 use lib.ListN.{length, length-append, get_or, drop}
-use Rattle.answers.specs.Answers.{done, bad_address, stopped}
+use Rattle.answers.specs.Answers.{number, bad_address, stopped}
 use Rattle.choice.specs.Choice.{pick}
 use Rattle.setup.specs.declared.Setup.{Setup}
-use Rattle.setup.specs.declared.Checked.TheVariants.{Good as InRange}
+use Rattle.std.specs.Prelude.{Ok, Err}
+use Rattle.answers.specs.declared.Refusal.{Refusal}
+use Rattle.answers.specs.declared.Refusal.TheVariants.{BadAddress, Stopped}
 use Rattle.setup.specs.Setup.{Ranges, merging, with_defaults, checked_of}
 use Rattle.port.specs.declared.Operation.{Operation}
 use Rattle.port.specs.declared.Delivery.{Delivery}
@@ -23,7 +24,7 @@ use Rattle.model.specs.declared.Cycled.{Cycled}
 use Rattle.model.specs.Lent.{Lent}
 use Rattle.model.specs.Range.{Ready, lengths_ok}
 use Rattle.model.specs.Cycle.{passed}
-use Rattle.model.specs.Calls.{address_ok, offered_of, refused, step_of}
+use Rattle.model.specs.Calls.{address_ok, offered_of, refused, step_in, step_of}
 use Rattle.model.specs.Runs.{Machine, call, left_by, reply_of, after, fresh}
 use Rattle.model.specs.Sram.{due}
 use Rattle.model.specs.Ledger.{Ledger, fresh_ledger, serviced, replied, entered}
@@ -106,7 +107,7 @@ module _ (g : Setup) (w₀ : Machine) where
 
   pub follows_fresh : Starts g w₀ → Follows (fresh g w₀) fresh_ledger
   follows_fresh h =
-      let c : checked_of g ≡ InRange s = starts_checked g w₀ h in
+      let c : checked_of g ≡ Ok s = starts_checked g w₀ h in
       let r : Ranges s = checked_ranges g s c in
       let l : lengths_ok s w₀.1 ≡ true = starts_lengths g w₀ h in
       rw (fresh_machine g w₀ h)
@@ -144,12 +145,12 @@ module _ (g : Setup) (w₀ : Machine) where
     by_step : (q : Cycled × Lent) → step_of s w.0 op w.1 ≡ q → call g op w ≡ q
     by_step q p = ready_cycle g s (starts_checked g w₀ start) w.0 w.1 k.ready op ∙ p
 
-    refuses : (n : ℕ) → offered_of s w.0 op ≡ n → eqb n done ≡ false → call g op w ≡ refused n w.0 w.1
-    unfolding step_of
-    refuses n p h = by_step (refused n w.0 w.1) (rw (p, h))
+    refuses : (r : Refusal) → offered_of s w.0 op ≡ Err r → call g op w ≡ refused (number r) w.0 w.1
+    unfolding step_in
+    refuses r p = by_step (refused (number r) w.0 w.1) (rw p)
 
-    passes : offered_of s w.0 op ≡ done → call g op w ≡ passed s w.0 op w.1
-    unfolding step_of
+    passes : offered_of s w.0 op ≡ Ok tt → call g op w ≡ passed s w.0 op w.1
+    unfolding step_in
     passes p = by_step (passed s w.0 op w.1) (rw p)
 
     Kept : Cycled × Lent → Type 0
@@ -158,16 +159,16 @@ module _ (g : Setup) (w₀ : Machine) where
     kept_stopped : w.0.stopped ≡ true → Kept (call g op w)
     unfolding Kept offered_of
     kept_stopped h =
-        let p : offered_of s w.0 op ≡ stopped = rw h in
+        let p : offered_of s w.0 op ≡ Err Stopped = rw h in
         let q : e ≡ (replied stopped None 0, l) = entered_halted s (start_word g w₀) op l (sym marks ∙ h) in
-        rw (refuses stopped p refl, q) (refl, k)
+        rw (refuses Stopped p, q) (refl, k)
 
     kept_address : w.0.stopped ≡ false → address_ok s op ≡ false → Kept (call g op w)
     unfolding Kept offered_of
     kept_address h a =
-        let p : offered_of s w.0 op ≡ bad_address = rw (h, a) in
+        let p : offered_of s w.0 op ≡ Err BadAddress = rw (h, a) in
         let q : e ≡ (replied bad_address None 0, l) = entered-refused s (start_word g w₀) op l (sym marks ∙ h) a in
-        rw (refuses bad_address p refl, q) (refl, k)
+        rw (refuses BadAddress p, q) (refl, k)
 
     module _ (h : w.0.stopped ≡ false) (a : address_ok s op ≡ true) where
       abbrev o : T.Op ℕ
@@ -260,7 +261,7 @@ module _ (g : Setup) (w₀ : Machine) where
       kept_passed : Kept (call g op w)
       unfolding Kept offered_of
       kept_passed =
-          let p : offered_of s w.0 op ≡ done = rw (h, a) in
+          let p : offered_of s w.0 op ≡ Ok tt = rw (h, a) in
           rw (passes p) (
             same-replies _ _ answers deliveries stamped,
             record {

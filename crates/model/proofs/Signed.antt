@@ -12,7 +12,8 @@ use borrow.Author.Tests.{ltb-true}
 use Rattle.answers.specs.Answers.{done, bad_address, dropped, stopping, stopped}
 use Rattle.choice.specs.Choice.{pick}
 use Rattle.setup.specs.declared.Setup.{Setup}
-use Rattle.setup.specs.declared.Checked.TheVariants.{Good as InRange}
+use Rattle.std.specs.Prelude.{Result, Ok, Err, ⊤}
+use Rattle.answers.specs.declared.Refusal.{Refusal}
 use Rattle.setup.specs.Setup.{banks_of, merging, with_defaults, checked_of}
 use Rattle.map.specs.declared.Address.{Address}
 use Rattle.port.specs.declared.Operation.{Operation}
@@ -22,12 +23,9 @@ use Rattle.port.specs.declared.Delivery.TheVariants.{None, Unready, Word}
 use Rattle.port.specs.declared.Reply.{Reply}
 use Rattle.model.specs.declared.State.{State}
 use Rattle.model.specs.declared.Waiting.{Waiting}
-use Rattle.model.specs.declared.Standing.{Standing}
-use Rattle.model.specs.declared.Standing.TheVariants.{Sound, Refusal}
 use Rattle.model.specs.Lent.{Lent, count_of}
 use Rattle.model.specs.Range.{Ready}
-use Rattle.model.specs.Cycle.{passed}
-use Rattle.model.specs.Calls.{address_ok, standing_of, offered_of, refused, step_of, cycle_in, told, tell_of, waiting_in, waiting_of}
+use Rattle.model.specs.Calls.{address_ok, standing_of, offered_of, refused, step_in, cycle_in, told, tell_of, waiting_in, waiting_of}
 use Rattle.model.specs.Runs.{Machine, reply_of, replies, after, after_all, fresh}
 use Rattle.model.specs.Sram.{sram, due}
 use Rattle.model.specs.Ledger.{Ledger, fresh_ledger, waits, serviced, retires, arrives, full, ended, entered}
@@ -319,7 +317,7 @@ read-leaves g w ops more a op h taken far k = go (tells_run g w (ops ++ Read a �
 ------------------------------------------------------------------------
 -- The question, refusals, turn and position
 
-ready_waiting : (g s : Setup) → checked_of g ≡ InRange s → (t : State) (b : ℕ) (x : Lent) → Ready s t x
+ready_waiting : (g s : Setup) → checked_of g ≡ Ok s → (t : State) (b : ℕ) (x : Lent) → Ready s t x
     → waiting_of g t b x ≡ pick (ltb b (banks_of s)) (told done (count_of x.buffers.heads b)) (told bad_address 0)
 unfolding waiting_in tell_of
 ready_waiting g s c t b x r = rw (ready_standing g s c t x r)
@@ -375,16 +373,16 @@ tells_waiting g w ops b h = (answered, tallied)
         ∙ pick-map (λ (q : Waiting). q.count) (ltb b (banks_of s)) (told done (count_of m.1.buffers.heads b)) (told bad_address 0)
         ∙ counts (ltb b (banks_of s)) refl
 
-refuses_in : (c : Standing) (t : State) (op : Operation) (x : Lent)
+refuses_in : (c : Result Setup Refusal) (t : State) (op : Operation) (x : Lent)
     → NotRefused (cycle_in c t op x).0.reply.answer ⊎ (cycle_in c t op x ≡ refused (cycle_in c t op x).0.reply.answer t x)
-unfolding cycle_in step_of
-refuses_in (Refusal n) t op x = inr refl
-refuses_in (Sound s) t op x = go (eqb (offered_of s t op) done)
+unfolding cycle_in step_in
+refuses_in (Err r) t op x = inr refl
+refuses_in (Ok s) t op x = go (offered_of s t op)
   where
-    go : (b : Bool) → NotRefused (pick b (passed s t op x) (refused (offered_of s t op) t x)).0.reply.answer
-        ⊎ (pick b (passed s t op x) (refused (offered_of s t op) t x) ≡ refused (pick b (passed s t op x) (refused (offered_of s t op) t x)).0.reply.answer t x)
-    go true = inl (passed-answer s t op x)
-    go false = inr refl
+    go : (r : Result ⊤ Refusal) → NotRefused (step_in r s t op x).0.reply.answer
+        ⊎ (step_in r s t op x ≡ refused (step_in r s t op x).0.reply.answer t x)
+    go (Ok u) = inl (passed-answer s t op x)
+    go (Err r) = inr refl
 
 pub refuses_whole : RefusesWhole
 refuses_whole g t op x = refuses_in (standing_of g t x) t op x

@@ -1,10 +1,9 @@
 -- The answer table: each call's refusals, exactly when and in which order, on every state, reached or not.
 use Rattle.std.specs.Prelude.{ℕ, ◌≤◌, ◌<◌, ◌≡◌, ◌↔◌, Bool, true, List, ltb, eqb}
-use Rattle.answers.specs.Answers.{done, bad_length, bad_state, bad_address, stopped}
+use Rattle.answers.specs.Answers.{done, bad_setup, bad_length, bad_state, bad_address, stopped}
 use Rattle.choice.specs.Choice.{pick}
-use Rattle.setup.specs.Setup.{with_defaults, in_range, answer_of, words_of, banks_of}
+use Rattle.setup.specs.Setup.{with_defaults, in_range, words_of, banks_of}
 use Rattle.setup.specs.declared.Setup.{Setup}
-use Rattle.setup.specs.declared.Checked.TheVariants.{Refused}
 use Rattle.port.specs.declared.Operation.{Operation}
 use Rattle.port.specs.declared.Operation.TheVariants.{Idle, Read, Write}
 use Rattle.model.specs.declared.State.{State}
@@ -54,7 +53,7 @@ StartsInOrder =
     → fresh_of g t x
     ≡ pick (in_range (with_defaults g))
     (pick (lengths_ok (with_defaults g) x) (started done fresh_state, fresh_lent (with_defaults g) x) (started bad_length t, x))
-    (started (answer_of Refused) t, x)
+    (started bad_setup t, x)
 
 -- a cycle: 1, 2, 3, 7, 4 in this order, and else it is not refused
 abbrev pub RefusesInOrder : Type 0
@@ -68,7 +67,7 @@ RefusesInOrder =
     (pick (within (with_defaults g) op) (passed (with_defaults g) t op x) (refused bad_address t x)))
     (refused bad_state t x))
     (refused bad_length t x))
-    (refused (answer_of Refused) t x)
+    (refused bad_setup t x)
 
 -- a question: 1 to 4; else it tells the buffer's count, and a refused one 0
 abbrev pub TellsInOrder : Type 0
@@ -81,5 +80,5 @@ TellsInOrder =
     (pick (ltb b (banks_of (with_defaults g))) done bad_address)
     bad_state)
     bad_length)
-    (answer_of Refused))
+    bad_setup)
     × ((waiting_of g t b x).count ≡ pick (eqb (waiting_of g t b x).answer done) (count_of x.buffers.heads b) 0)

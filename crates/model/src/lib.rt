@@ -3,7 +3,6 @@
 
 use map::{Address, Cell};
 use port::Reply;
-use setup::Setup;
 
 // The state goes in and comes back by value; everything else is lent.
 #[derive(Clone, Copy)]
@@ -102,13 +101,6 @@ impl Head {
 pub struct Plan {
     pub row: Row,
     pub placing: Option<Entry>,
-}
-
-// What 1, 2 and 3 look at stands, under the setup with its defaults in; or the first of them that refuses.
-#[derive(Clone, Copy)]
-pub enum Standing {
-    Sound(Setup),
-    Refusal(u32),
 }
 
 // What a cycle returns.

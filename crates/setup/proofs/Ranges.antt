@@ -7,8 +7,9 @@ use mathlib.Core.Path.{◌≡◌, refl, sym, subst, ◌∙◌}
 use mathlib.Core.Bool.{Bool, true, false, ◌&&◌}
 use borrow.Author.Tests.{leb-true, eqb-true}
 use Rattle.setup.specs.declared.Setup.{Setup}
-use Rattle.setup.specs.declared.Checked.{Checked}
-use Rattle.setup.specs.declared.Checked.TheVariants.{Good, Refused}
+use Rattle.std.specs.Prelude.{Result, Ok, Err}
+use Rattle.answers.specs.declared.Refusal.{Refusal}
+use Rattle.answers.specs.declared.Refusal.TheVariants.{BadSetup}
 use Rattle.answers.specs.Answers.{done, bad_setup}
 use Rattle.choice.specs.Choice.{pick}
 use Rattle.map.specs.declared.Map.{Map}
@@ -35,18 +36,18 @@ full_sizes s f t e h w = rw w (sizes (with_defaults s) (sym e ∙ h))
 
 -- t and u are what the two tests answered, and f what the defaults gave
 module _ (s f : Setup) (t u : Bool) where
-  pub checked_good : t ≡ sizes_ok s → t ≡ true → f ≡ with_defaults s → u ≡ rest_ok f → u ≡ true → Good f ≡ checked_of s
+  pub checked_good : t ≡ sizes_ok s → t ≡ true → f ≡ with_defaults s → u ≡ rest_ok f → u ≡ true → Ok f ≡ checked_of s
   checked_good e₁ h₁ e₂ e₃ h₂ = cc
 
-  pub checked_refused : t ≡ sizes_ok s → t ≡ true → f ≡ with_defaults s → u ≡ rest_ok f → u ≡ false → Refused ≡ checked_of s
+  pub checked_refused : t ≡ sizes_ok s → t ≡ true → f ≡ with_defaults s → u ≡ rest_ok f → u ≡ false → Err BadSetup ≡ checked_of s
   checked_refused e₁ h₁ e₂ e₃ h₂ = cc
 
-pub checked_too_large : (s : Setup) (t : Bool) → t ≡ sizes_ok s → t ≡ false → Refused ≡ checked_of s
+pub checked_too_large : (s : Setup) (t : Bool) → t ≡ sizes_ok s → t ≡ false → Err BadSetup ≡ checked_of s
 checked_too_large s t e h = cc
 
 -- d is the setup with its defaults in, b what the test of the ranges answers
 checks_by : (d none : Setup) (b : Bool)
-    → (answer_of (pick b (Good d) Refused) ≡ pick b done bad_setup) × (setup_or none (pick b (Good d) Refused) ≡ pick b d none)
+    → (answer_of (pick b (Ok d) (Err BadSetup)) ≡ pick b done bad_setup) × (setup_or none (pick b (Ok d) (Err BadSetup)) ≡ pick b d none)
 checks_by d none true = (refl, refl)
 checks_by d none false = (refl, refl)
 
@@ -57,14 +58,14 @@ checks_exactly s none = checks_by (with_defaults s) none (in_range (with_default
 ranges : (s : Setup) → in_range s ≡ true → Ranges s
 ranges s h = let z : Sizes s = sizes s (and_l _ _ h) in search (and_l, and_r, leb-true, eqb-true) depth 12
 
-picked : (b : Bool) (g f : Setup) → pick b (Good g) Refused ≡ Good f → (b ≡ true) × (g ≡ f)
+picked : (b : Bool) (g f : Setup) → pick b (Ok g) (Err BadSetup) ≡ Ok f → (b ≡ true) × (g ≡ f)
 picked true g f h = (refl, cc)
 picked false g f h = let z : ◌≡◌ {A = ℕ} 0 1 = cc in absurd (omega arith)
 
-pub good_ranges : (s f : Setup) (r : Checked) → r ≡ checked_of s → r ≡ Good f → Ranges f
+pub good_ranges : (s f : Setup) (r : Result Setup Refusal) → r ≡ checked_of s → r ≡ Ok f → Ranges f
 good_ranges s f r e h = let p = picked (in_range (with_defaults s)) (with_defaults s) f (sym e ∙ h) in ranges f (subst (λ (g : Setup). in_range g ≡ true) p.1 p.0)
 
-pub good_sizes : (s f : Setup) (r : Checked) → r ≡ checked_of s → r ≡ Good f → Sizes f
+pub good_sizes : (s f : Setup) (r : Result Setup Refusal) → r ≡ checked_of s → r ≡ Ok f → Sizes f
 good_sizes s f r e h = (good_ranges s f r e h).sizes
 
 -- What a call of the address map asks for, where m is what `Setup::map` answered.

@@ -1,12 +1,12 @@
 -- The document's "Numbers of a configuration". A setup's numbers are ℕ here, so nothing wraps and no default needs a bound.
-use Rattle.std.specs.Prelude.{ℕ, ◌*◌, ◌%◌, ◌≤◌, Bool, ◌&&◌, ◌≡◌, leb, ltb, eqb}
-use Rattle.answers.specs.Answers.{done, bad_setup}
+use Rattle.std.specs.Prelude.{ℕ, ◌*◌, ◌%◌, ◌≤◌, Bool, ◌&&◌, ◌≡◌, leb, ltb, eqb, Result, Ok, Err}
+use Rattle.answers.specs.declared.Refusal.{Refusal}
+use Rattle.answers.specs.declared.Refusal.TheVariants.{BadSetup}
+use Rattle.answers.specs.Answers.{done, bad_setup, number}
 use Rattle.choice.specs.Choice.{pick}
 use Rattle.map.specs.declared.Map.{Map}
 use Rattle.map.specs.Map as map
 use Rattle.setup.specs.declared.Setup.{Setup}
-use Rattle.setup.specs.declared.Checked.{Checked}
-use Rattle.setup.specs.declared.Checked.TheVariants.{Good, Refused}
 
 -- mode: 0 plain, 1 merging
 abbrev pub merging : Setup → Bool
@@ -83,17 +83,17 @@ in_range s = sizes_ok s && rest_ok s
 ------------------------------------------------------------------------
 -- The ranges apply after the defaults
 
-abbrev pub checked_of : Setup → Checked
-checked_of s = pick (in_range (with_defaults s)) (Good (with_defaults s)) Refused
+abbrev pub checked_of : Setup → Result Setup Refusal
+checked_of s = pick (in_range (with_defaults s)) (Ok (with_defaults s)) (Err BadSetup)
 
 -- the document's number for each case, and its value: the setup with its defaults in, or none
-abbrev pub answer_of : Checked → ℕ
-answer_of (Good s) = done
-answer_of Refused = bad_setup
+abbrev pub answer_of : Result Setup Refusal → ℕ
+answer_of (Ok s) = done
+answer_of (Err r) = number r
 
-abbrev pub setup_or : Setup → Checked → Setup
-setup_or none (Good s) = s
-setup_or none Refused = none
+abbrev pub setup_or : Setup → Result Setup Refusal → Setup
+setup_or none (Ok s) = s
+setup_or none (Err r) = none
 
 -- 1 exactly when a number is out of range, and else the setup with its defaults in
 abbrev pub ChecksExactly : Type 0

@@ -4,6 +4,7 @@
 ghost use Rattle.std.specs.Prelude.{◌≡◌};
 ghost use Rattle.setup.specs.Setup.{map_of, words_of, banks_of, least_delta, or_default, with_defaults, sizes_ok, rest_ok, checked_of, Sizes};
 
+use answers::Refusal;
 use map::Map;
 
 #[repr(C)]
@@ -26,13 +27,6 @@ pub struct Setup {
     // The address map.
     pub u: u32,
     pub v: u32,
-}
-
-// The setup with its defaults in, or refusal 1.
-#[derive(Clone, Copy)]
-pub enum Checked {
-    Good(Setup),
-    Refused,
 }
 
 // x, or its default where x is 0.
@@ -146,18 +140,15 @@ impl Setup {
     }
 
     // The given setup with its defaults in, if all its numbers are then in range.
-    pub fn checked(given: Setup) -> Checked
+    pub fn checked(given: Setup) -> Result<Setup, Refusal>
         ensures { result ≡ checked_of given }
     {
         if given.sizes_ok() {
             let full = given.with_defaults();
             if full.rest_ok() {
-                Checked::Good(full)
-            } else {
-                Checked::Refused
+                return Ok(full);
             }
-        } else {
-            Checked::Refused
         }
+        Err(Refusal::BadSetup)
     }
 }
