@@ -53,13 +53,13 @@ module _ (s : Setup) (q q' : Buffers) (b : ℕ) where
             (omega (arith, oldest j n, oldest_below s q g j l))
             (omega (arith, count j n, count_most s q g j l)))
             (same_or_not j b);
-        entries_ok_lem =
+        waiting =
             λ j i l m. ⊎_elim
             (λ e. subst (λ (k : ℕ). i < count_of q'.heads k → entry_ok (words_of s) s.c (waiting_entry s q' k i) ≡ true) (sym e)
             (waiting i)
             m)
             (λ n. let m' : i < count_of q.heads j = omega (arith, count j n) in
-            ap (entry_ok (words_of s) s.c) (others j i n l m') ∙ g.entries_ok_lem j i l m')
+            ap (entry_ok (words_of s) s.c) (others j i n l m') ∙ g.waiting j i l m')
             (same_or_not j b);
       }
 
@@ -73,7 +73,7 @@ pub oldest_ok : (s : Setup) (q : Buffers) → GoodBuffers s q → (b : ℕ) → 
 oldest_ok s q g b h n =
     ⊎_elim
     (λ e. absurd (n e))
-    (λ l. ap (entry_ok (words_of s) s.c) (sym (waiting_first s q b (oldest_below s q g b h))) ∙ g.entries_ok_lem b 0 h l)
+    (λ l. ap (entry_ok (words_of s) s.c) (sym (waiting_first s q b (oldest_below s q g b h))) ∙ g.waiting b 0 h l)
     (eq-zero-or-pos (count_of q.heads b))
 
 ------------------------------------------------------------------------
@@ -114,7 +114,7 @@ module _ (s : Setup) (q : Buffers) (b : ℕ) where
         (rw oldest_popped (onward-below s.k (oldest_of q.heads b) 1 (oldest_below s q g b h) (omega (arith, oldest_below s q g b h))))
         (omega (arith, count-popped, count_most s q g b h)))
         (λ i l. let m : i + 1 < count_of q.heads b = omega (arith, count-popped) in
-        ap (entry_ok (words_of s) s.c) (waiting_popped i (omega (arith, count_most s q g b h))) ∙ g.entries_ok_lem b (i + 1) h m)
+        ap (entry_ok (words_of s) s.c) (waiting_popped i (omega (arith, count_most s q g b h))) ∙ g.waiting b (i + 1) h m)
         oldest_popped_other
         count-popped_other
         (λ j i n l m. waiting_popped_other j i n)
@@ -179,7 +179,7 @@ module _ (s : Setup) (q : Buffers) (b : ℕ) (e : Entry) where
           (length-put_head q.heads b _ _)
           (head_ok_lem s (placed_at s b e q).heads b (rw oldest_placed (oldest_below s q g b h)) (rw count-placed (omega arith)))
           (λ i l. ⊎_elim
-          (λ m. ap (entry_ok (words_of s) s.c) (waiting_placed_below i m) ∙ g.entries_ok_lem b i h m)
+          (λ m. ap (entry_ok (words_of s) s.c) (waiting_placed_below i m) ∙ g.waiting b i h m)
           (λ m. let p : i ≡ count_of q.heads b = omega (arith, count-placed) in
           ap (λ (j : ℕ). entry_ok (words_of s) s.c (waiting_entry s (placed_at s b e q) b j)) p
           ∙ ap (entry_ok (words_of s) s.c) waiting_placed_last

@@ -1,7 +1,7 @@
 -- What the answers 2 and 3 establish, test by test: a test is true exactly when what it looks at is in range. Assumes nothing.
 use Prim.Native.Nat.{ℕ, ◌≤◌, ◌<◌}
-use mathlib.Core.Path.{◌≡◌, refl}
-use mathlib.Core.Bool.{true}
+use mathlib.Core.Path.{◌≡◌, refl, sym, ◌∙◌}
+use mathlib.Core.Bool.{Bool, true}
 use mathlib.Core.List.{List}
 use borrow.Author.Tests.{ltb-true, lt-ltb, leb-true, le-leb, eqb-true, eq-eqb, eqb-false, ne_eqb}
 use Rattle.setup.specs.Setup.{Ranges, words_of, banks_of}
@@ -11,7 +11,7 @@ use Rattle.model.specs.declared.State.{State}
 use Rattle.model.specs.declared.Row.{Row}
 use Rattle.model.specs.declared.Entry.{Entry}
 use Rattle.model.specs.Lent.{Lent, Buffers, empty_kind, waiting_kind, row_at, read_entry, write_entry, oldest_of, count_of}
-use Rattle.model.specs.Range.{lengths_ok, row_ok, rows_ok, entry_ok, waiting_entry, entries_ok, head_ok, buffer_ok, buffers_ok, numbers_ok, Good, Ready}
+use Rattle.model.specs.Range.{lengths_ok, row_ok, rows_ok, entry_ok, waiting_entry, entries_ok, head_ok, buffer_ok, buffers_ok, numbers_ok, Exact, Good, Ready}
 use Rattle.model.specs.Refusals.{NumbersFit, NumbersExactly}
 use Rattle.choice.proofs.Tests.{and_true, or_true, or_r, not-or_true, not-or_r}
 use Rattle.flat.proofs.Below.{each_below, all_below_lem}
@@ -167,7 +167,7 @@ tests_good s x g lengths rows buffers =
           record {
             room = record { entries_long = search (and_l, and_r, eqb-true); heads_long = search (and_l, and_r, eqb-true) };
             heads_ok = λ b l. buffer_head s x.buffers b (buffers_each s x.buffers (banks_of s) buffers b l);
-            entries_ok_lem = λ b i l. buffer_entries s x.buffers b (buffers_each s x.buffers (banks_of s) buffers b l) i;
+            waiting = λ b i l. buffer_entries s x.buffers b (buffers_each s x.buffers (banks_of s) buffers b l) i;
           };
     }
 
@@ -179,7 +179,7 @@ rows_true s x g = rows_all _ _ _ _ g.rows.ok
 
 pub buffers_true : (s : Setup) (x : Lent) → Good s x → buffers_ok s x.buffers (banks_of s) ≡ true
 buffers_true s x g =
-    buffers_all s x.buffers (banks_of s) (λ b l. buffer_ok_lem s x.buffers b (g.buffers.heads_ok b l) (λ i. g.buffers.entries_ok_lem b i l))
+    buffers_all s x.buffers (banks_of s) (λ b l. buffer_ok_lem s x.buffers b (g.buffers.heads_ok b l) (λ i. g.buffers.waiting b i l))
 
 pub ready : (s : Setup) (t : State) (x : Lent) → Ranges s → lengths_ok s x ≡ true → numbers_ok s t x.rows x.buffers ≡ true → Ready s t x
 ready s t x g lengths numbers =
@@ -188,6 +188,24 @@ ready s t x g lengths numbers =
       turn = search (and_l, and_r, ltb-true);
       position = search (and_l, and_r, ltb-true);
     }
+
+-- b is what the tests of 2 and of 3 answered
+module _ (s : Setup) (x : Lent) (b : Bool) where
+  pub exact_shown : Ranges s → b ≡ lengths_ok s x → b ≡ true → Exact s x
+  exact_shown r e h =
+      let l : lengths_ok s x ≡ true = sym e ∙ h in
+      record {
+        ranges = r;
+        memory_long = search (and_l, and_r, eqb-true) depth 12;
+        rows_long = search (and_l, and_r, eqb-true) depth 12;
+        room = record {
+          entries_long = search (and_l, and_r, eqb-true) depth 12;
+          heads_long = search (and_l, and_r, eqb-true) depth 12;
+        };
+      }
+
+  pub ready_shown : (t : State) → Exact s x → b ≡ numbers_ok s t x.rows x.buffers → b ≡ true → Ready s t x
+  ready_shown t g e h = ready s t x g.ranges (search (and_true, eq-eqb)) (sym e ∙ h)
 
 pub ready_lengths : (s : Setup) (t : State) (x : Lent) → Ready s t x → lengths_ok s x ≡ true
 ready_lengths s t x r = lengths_true s x r.good

@@ -62,7 +62,7 @@ module _ (s : Setup) where
             λ b h. head_ok_lem s (replicate (lengths_of s).heads 0) b
             (omega (arith, fresh_oldest b h, r.sizes.k_least))
             (omega (arith, fresh-count b h));
-        entries_ok_lem = λ b i h l. absurd (omega (arith, fresh-count b h));
+        waiting = λ b i h l. absurd (omega (arith, fresh-count b h));
       }
 
 pub fresh_ready : (s : Setup) (x : Lent) → Ranges s → lengths_ok s x ≡ true → Ready s fresh_state (fresh_lent s x)

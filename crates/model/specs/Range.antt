@@ -83,6 +83,13 @@ pub record Room (s : Setup) (q : Buffers) : Type 0 where
   pub entries_long : length q.entries ≡ (lengths_of s).entries
   pub heads_long : length q.heads ≡ (lengths_of s).heads
 
+-- what 1 and 2 show
+pub record Exact (s : Setup) (x : Lent) : Type 0 where
+  pub ranges : Ranges s
+  pub memory_long : length x.memory ≡ (lengths_of s).memory
+  pub rows_long : length x.rows ≡ (lengths_of s).rows
+  pub room : Room s x.buffers
+
 pub record GoodRows (s : Setup) (rows : List ℕ) : Type 0 where
   pub long : length rows ≡ (lengths_of s).rows
   pub ok : (i : ℕ) → i < s.c → row_ok (words_of s) s.c (row_at s.c rows i) ≡ true
@@ -93,7 +100,7 @@ HeadsOk s heads = (b : ℕ) → b < banks_of s → head_ok s heads b ≡ true
 pub record GoodBuffers (s : Setup) (q : Buffers) : Type 0 where
   pub room : Room s q
   pub heads_ok : HeadsOk s q.heads
-  pub entries_ok_lem : (b i : ℕ) → b < banks_of s → i < count_of q.heads b → entry_ok (words_of s) s.c (waiting_entry s q b i) ≡ true
+  pub waiting : (b i : ℕ) → b < banks_of s → i < count_of q.heads b → entry_ok (words_of s) s.c (waiting_entry s q b i) ≡ true
 
 pub record Good (s : Setup) (x : Lent) : Type 0 where
   pub ranges : Ranges s

@@ -1,15 +1,17 @@
 // What the calls look at before they change anything, and what a refusal, a question and a fresh start return.
 #![tactic(auto)]
 
-ghost use Rattle.std.specs.Prelude.{◌≡◌, length};
+ghost use Rattle.std.specs.Prelude.{◌≡◌, length, IfOk};
 ghost use Rattle.setup.specs.Setup.{Ranges};
+ghost use Rattle.answers.specs.Answers.{number};
 ghost use Rattle.model.specs.Lent.{buffers_in, lent};
-ghost use Rattle.model.specs.Range.{lengths_of, lengths_ok, numbers_ok, Room};
+ghost use Rattle.model.specs.Range.{lengths_of, lengths_ok, numbers_ok, Room, Exact, Ready};
 ghost use Rattle.model.specs.Calls.{exact_of, standing_of, address_ok, offered_of, refused_by, fresh_state, tell_of};
 
-use model::{Cycled, Entry, Head, Lengths, Row, Standing, State, Waiting};
+use answers::Refusal;
+use model::{Cycled, Entry, Head, Lengths, Row, State, Waiting};
 use port::{Delivery, Operation, Reply};
-use setup::{Checked, Setup};
+use setup::Setup;
 
 // How many numbers each lent slice must have.
 pub fn lengths(s: Setup) -> Lengths
@@ -39,17 +41,23 @@ pub fn lengths_ok(s: Setup, memory: &[u32], rows: &[u32], entries: &[u32], heads
 }
 
 // 1 and 2: the setup in range, and every length exact.
-pub fn exact(setup: Setup, memory: &[u32], rows: &[u32], entries: &[u32], heads: &[u32]) -> Standing
-    ensures { result
+#[tactic(auto, using(model::proofs::Range::exact_shown), unfolding(model::specs::Calls::exact_in))]
+pub fn exact(
+    setup: Setup,
+    memory: &[u32],
+    rows: &[u32],
+    entries: &[u32],
+    heads: &[u32],
+) -> Result<Setup, Refusal>
+    ensures exact { result
         ≡ exact_of setup (lent memory.now rows.now entries.now heads.now) }
+    ensures shown { IfOk result (λ s. Exact s (lent memory.now rows.now entries.now heads.now)) }
 {
-    let Checked::Good(s) = Setup::checked(setup) else {
-        return Standing::Refusal(answers::BAD_SETUP);
-    };
+    let s = Setup::checked(setup)?;
     if lengths_ok(s, memory, rows, entries, heads) {
-        return Standing::Sound(s);
+        return Ok(s);
     }
-    Standing::Refusal(answers::BAD_LENGTH)
+    Err(Refusal::BadLength)
 }
 
 // Whether every number in state, row or entry is in the range its meaning allows.
@@ -63,7 +71,8 @@ pub fn numbers_ok(s: Setup, t: State, rows: &[u32], entries: &[u32], heads: &[u3
     turn & table & entries::buffers_ok(s, n, entries, heads)
 }
 
-// 1, 2 and 3: besides, every number in the range its meaning allows. Not through `exact`, which would copy the setup twice more.
+// 1, 2 and 3: besides, every number in the range its meaning allows.
+#[tactic(auto, unfolding(model::specs::Calls::standing_in))]
 pub fn standing(
     setup: Setup,
     t: State,
@@ -71,20 +80,16 @@ pub fn standing(
     rows: &[u32],
     entries: &[u32],
     heads: &[u32],
-) -> Standing
-    ensures { result
+) -> Result<Setup, Refusal>
+    ensures standing { result
         ≡ standing_of setup t (lent memory.now rows.now entries.now heads.now) }
+    ensures shown { IfOk result (λ s. Ready s t (lent memory.now rows.now entries.now heads.now)) }
 {
-    let Checked::Good(s) = Setup::checked(setup) else {
-        return Standing::Refusal(answers::BAD_SETUP);
-    };
-    if lengths_ok(s, memory, rows, entries, heads) {
-        if numbers_ok(s, t, rows, entries, heads) {
-            return Standing::Sound(s);
-        }
-        return Standing::Refusal(answers::BAD_STATE);
+    let s = exact(setup, memory, rows, entries, heads)?;
+    if numbers_ok(s, t, rows, entries, heads) {
+        return Ok(s);
     }
-    Standing::Refusal(answers::BAD_LENGTH)
+    Err(Refusal::BadState)
 }
 
 // Whether the operation's address, if it has one, is below N.
@@ -99,28 +104,29 @@ fn address_ok(s: Setup, op: Operation) -> bool
     }
 }
 
-// 7 and 4: the answer to an offered operation that is refused, or 0.
-pub fn offered(s: Setup, t: State, op: Operation) -> u32
+// 7 and 4: an offered operation that is refused.
+#[tactic(auto, unfolding(model::specs::Calls::offered_of))]
+pub fn offered(s: Setup, t: State, op: Operation) -> Result<(), Refusal>
     requires { Ranges s }
     ensures { result ≡ offered_of s t op }
 {
     if t.stopped {
-        return answers::STOPPED;
+        return Err(Refusal::Stopped);
     }
     if address_ok(s, op) {
-        return answers::DONE;
+        return Ok(());
     }
-    answers::BAD_ADDRESS
+    Err(Refusal::BadAddress)
 }
 
 // A refused call: delivery none, stamp 0, and the state as it was.
-pub fn refuse(answer: u32, t: State) -> Cycled
-    ensures { result ≡ refused_by answer t }
+pub fn refuse(refusal: Refusal, t: State) -> Cycled
+    ensures { result ≡ refused_by (number refusal) t }
 {
     Cycled {
         state: t,
         reply: Reply {
-            answer,
+            answer: refusal.number(),
             delivery: Delivery::None,
             stamp: 0,
         },
@@ -140,6 +146,7 @@ pub fn first_state() -> State
 }
 
 // What a question of one bank tells once 1, 2 and 3 are past.
+#[tactic(auto, unfolding(model::specs::Calls::tell_of))]
 pub fn tell(s: Setup, bank: u32, heads: &[u32]) -> Waiting
     requires { Ranges s × (length heads.now ≡ (lengths_of s).heads) }
     ensures { result ≡ tell_of s bank heads.now }
@@ -151,7 +158,7 @@ pub fn tell(s: Setup, bank: u32, heads: &[u32]) -> Waiting
         };
     }
     Waiting {
-        answer: answers::BAD_ADDRESS,
+        answer: Refusal::BadAddress.number(),
         count: 0,
     }
 }

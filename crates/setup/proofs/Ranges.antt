@@ -28,23 +28,6 @@ and_r false false h = h
 pub sizes : (s : Setup) → sizes_ok s ≡ true → Sizes s
 sizes s h = search (and_l, and_r, leb-true) depth 12
 
-pub passed_sizes : (s : Setup) (t : Bool) → t ≡ sizes_ok s → t ≡ true → Sizes s
-passed_sizes s t e h = sizes s (sym e ∙ h)
-
-pub full_sizes : (s f : Setup) (t : Bool) → t ≡ sizes_ok s → t ≡ true → f ≡ with_defaults s → Sizes f
-full_sizes s f t e h w = rw w (sizes (with_defaults s) (sym e ∙ h))
-
--- t and u are what the two tests answered, and f what the defaults gave
-module _ (s f : Setup) (t u : Bool) where
-  pub checked_good : t ≡ sizes_ok s → t ≡ true → f ≡ with_defaults s → u ≡ rest_ok f → u ≡ true → Ok f ≡ checked_of s
-  checked_good e₁ h₁ e₂ e₃ h₂ = cc
-
-  pub checked_refused : t ≡ sizes_ok s → t ≡ true → f ≡ with_defaults s → u ≡ rest_ok f → u ≡ false → Err BadSetup ≡ checked_of s
-  checked_refused e₁ h₁ e₂ e₃ h₂ = cc
-
-pub checked_too_large : (s : Setup) (t : Bool) → t ≡ sizes_ok s → t ≡ false → Err BadSetup ≡ checked_of s
-checked_too_large s t e h = cc
-
 -- d is the setup with its defaults in, b what the test of the ranges answers
 checks_by : (d none : Setup) (b : Bool)
     → (answer_of (pick b (Ok d) (Err BadSetup)) ≡ pick b done bad_setup) × (setup_or none (pick b (Ok d) (Err BadSetup)) ≡ pick b d none)
@@ -57,6 +40,15 @@ checks_exactly s none = checks_by (with_defaults s) none (in_range (with_default
 -- What a caller knows of the setup that `checked` answered.
 ranges : (s : Setup) → in_range s ≡ true → Ranges s
 ranges s h = let z : Sizes s = sizes s (and_l _ _ h) in search (and_l, and_r, leb-true, eqb-true) depth 12
+
+both : (x y : Bool) → x ≡ true → y ≡ true → x && y ≡ true
+both x y h k = rw h k
+
+-- t and u are what the two tests answered, and f what the defaults gave
+pub full_ranges : (s f : Setup) (t u : Bool) → t ≡ sizes_ok s → t ≡ true → f ≡ with_defaults s → u ≡ rest_ok f → u ≡ true → Ranges f
+full_ranges s f t u e₁ h₁ e₂ e₃ h₂ =
+    subst Ranges (sym e₂)
+    (ranges (with_defaults s) (both _ _ (sym e₁ ∙ h₁) (subst (λ (g : Setup). rest_ok g ≡ true) e₂ (sym e₃ ∙ h₂))))
 
 picked : (b : Bool) (g f : Setup) → pick b (Ok g) (Err BadSetup) ≡ Ok f → (b ≡ true) × (g ≡ f)
 picked true g f h = (refl, cc)

@@ -1,8 +1,8 @@
 // A setup's nine numbers, their ranges, and the test of them.
 #![tactic(auto)]
 
-ghost use Rattle.std.specs.Prelude.{◌≡◌};
-ghost use Rattle.setup.specs.Setup.{map_of, words_of, banks_of, least_delta, or_default, with_defaults, sizes_ok, rest_ok, checked_of, Sizes};
+ghost use Rattle.std.specs.Prelude.{◌≡◌, IfOk};
+ghost use Rattle.setup.specs.Setup.{map_of, words_of, banks_of, least_delta, or_default, with_defaults, sizes_ok, rest_ok, checked_of, Sizes, Ranges};
 
 use answers::Refusal;
 use map::Map;
@@ -140,8 +140,10 @@ impl Setup {
     }
 
     // The given setup with its defaults in, if all its numbers are then in range.
+    #[tactic(auto, using(crate::proofs::Ranges::full_ranges))]
     pub fn checked(given: Setup) -> Result<Setup, Refusal>
-        ensures { result ≡ checked_of given }
+        ensures checked { result ≡ checked_of given }
+        ensures in_range { IfOk result Ranges }
     {
         if given.sizes_ok() {
             let full = given.with_defaults();
