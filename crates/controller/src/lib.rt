@@ -5,11 +5,12 @@ ghost use Rattle.std.specs.Prelude.{◌≡◌};
 ghost use Rattle.model.specs.Lent.{lent};
 ghost use Rattle.model.specs.Calls.{fresh_of, cycle_of, waiting_of};
 
-use model::{Cycled, Standing, Started, State, Waiting};
+use model::{Cycled, Started, State, Waiting};
 use port::Operation;
 use setup::Setup;
 
 // A fresh start: rows and buffers are emptied, and the memory words stay.
+#[tactic(auto, unfolding(model::specs::Calls::fresh_in))]
 pub fn fresh_start(
     setup: Setup,
     t: State,
@@ -22,8 +23,11 @@ pub fn fresh_start(
         ≡ fresh_of setup t (lent memory.now rows.old entries.now heads.old) }
 {
     match refusals::exact(setup, memory, rows, entries, heads) {
-        Standing::Refusal(answer) => Started { answer, state: t },
-        Standing::Sound(_) => {
+        Err(r) => Started {
+            answer: r.number(),
+            state: t,
+        },
+        Ok(_) => {
             rings::clear(rows);
             rings::clear(heads);
             Started {
@@ -35,6 +39,7 @@ pub fn fresh_start(
 }
 
 // One cycle.
+#[tactic(auto, unfolding(model::specs::Calls::cycle_in, model::specs::Calls::step_in))]
 pub fn cycle(
     setup: Setup,
     t: State,
@@ -48,19 +53,16 @@ pub fn cycle(
         ≡ cycle_of setup t op (lent memory.old rows.old entries.old heads.old) }
 {
     match refusals::standing(setup, t, memory, rows, entries, heads) {
-        Standing::Refusal(n) => refusals::refuse(n, t),
-        Standing::Sound(s) => {
-            let n = refusals::offered(s, t, op);
-            if n != answers::DONE {
-                return refusals::refuse(n, t);
-            }
-            passage::pass(s, t, op, memory, rows, entries, heads)
-        }
+        Err(r) => refusals::refuse(r, t),
+        Ok(s) => match refusals::offered(s, t, op) {
+            Err(r) => refusals::refuse(r, t),
+            Ok(()) => passage::pass(s, t, op, memory, rows, entries, heads),
+        },
     }
 }
 
-// How many entries wait at one bank. Not by `standing`: as long as `cycle` alone calls that, it becomes a part of `cycle`, and no
-// setup is copied there.
+// How many entries wait at one bank.
+#[tactic(auto, unfolding(model::specs::Calls::waiting_in))]
 pub fn waiting(
     setup: Setup,
     t: State,
@@ -73,16 +75,11 @@ pub fn waiting(
     ensures { result
         ≡ waiting_of setup t bank (lent memory.now rows.now entries.now heads.now) }
 {
-    match refusals::exact(setup, memory, rows, entries, heads) {
-        Standing::Refusal(answer) => Waiting { answer, count: 0 },
-        Standing::Sound(s) => {
-            if refusals::numbers_ok(s, t, rows, entries, heads) {
-                return refusals::tell(s, bank, heads);
-            }
-            Waiting {
-                answer: answers::BAD_STATE,
-                count: 0,
-            }
-        }
+    match refusals::standing(setup, t, memory, rows, entries, heads) {
+        Err(r) => Waiting {
+            answer: r.number(),
+            count: 0,
+        },
+        Ok(s) => refusals::tell(s, bank, heads),
     }
 }
