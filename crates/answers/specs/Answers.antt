@@ -1,5 +1,5 @@
 -- The document's "Answer numbers".
-use Rattle.std.specs.Prelude.{ℕ}
+use Rattle.std.specs.Prelude.{ℕ, Result, Ok, Err}
 use Rattle.answers.specs.declared.Refusal.{Refusal}
 use Rattle.answers.specs.declared.Refusal.TheVariants.{BadSetup, BadLength, BadState, BadAddress, Stopped, RoomTooSmall, BadRecord}
 
@@ -52,3 +52,8 @@ number BadAddress = bad_address
 number Stopped = stopped
 number RoomTooSmall = room_too_small
 number BadRecord = bad_record
+
+-- a call that is not refused answers 0
+abbrev pub answer_of : {T : Type 0} → Result T Refusal → ℕ
+answer_of (Ok x) = done
+answer_of (Err r) = number r

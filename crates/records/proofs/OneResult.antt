@@ -1,7 +1,9 @@
 -- The contract of each exported function allows one result for each input. Assumes nothing.
+use Rattle.std.specs.Prelude.{Result, ⊤}
 use Prim.Native.Nat.{ℕ}
 use mathlib.Core.List.{List}
 use mathlib.Core.Path.{◌≡◌, refl, ap, ◌∙⁻¹◌}
+use Rattle.answers.specs.declared.Refusal.{Refusal}
 use Rattle.results.specs.Results.{OneResult}
 use Rattle.records.specs.contracts as contracts
 use Rattle.records.proofs as records
@@ -14,5 +16,5 @@ read_operation_one κs input r₁ r₂ left₁ left₂ p q = (search (◌∙⁻�
 
 pub write_operation_one : OneResult contracts.write_operation.ended records.write_operation.Reads.Learnt
 write_operation_one κs input r₁ r₂ left₁ left₂ p q =
-    let e : ◌≡◌ {A = ℕ × List ℕ} (r₁, left₁.1.0) (r₂, left₂.1.0) = search (◌∙⁻¹◌) in
+    let e : ◌≡◌ {A = Result ⊤ Refusal × List ℕ} (r₁, left₁.1.0) (r₂, left₂.1.0) = search (◌∙⁻¹◌) in
     (ap (λ w. w.0) e, ap (λ w. (tt, (w.1, tt))) e)

@@ -1,11 +1,12 @@
 -- The document's "Records": the operation record.
-use Rattle.std.specs.Prelude.{ℕ, Bool, ◌&&◌, List, ◌∷◌, ◌++◌, eqb, length}
-use Rattle.answers.specs.Answers.{done, bad_length, bad_record}
+use Rattle.std.specs.Prelude.{ℕ, Bool, ◌&&◌, List, ◌∷◌, ◌++◌, eqb, length, ⊤, Result, Ok, Err}
+use Rattle.answers.specs.declared.Refusal.{Refusal}
+use Rattle.answers.specs.declared.Refusal.TheVariants.{BadLength, BadRecord}
+use Rattle.answers.specs.Answers.{done, number}
 use Rattle.choice.specs.Choice.{pick}
 use Rattle.port.specs.declared.Operation.{Operation}
 use Rattle.port.specs.declared.Operation.TheVariants.{Idle, Read, Write}
 use Rattle.octets.specs.Bytes.{byte_at, number_at, bytes_of, zero_at, zeros}
-use Rattle.records.specs.declared.OperationRecord.{OperationRecord}
 
 -- an operation has 12 bytes
 abbrev pub operation_size : ℕ
@@ -26,11 +27,11 @@ abbrev pub operation_zeros : List ℕ → Bool
 operation_zeros s = zero_at s 1 && zero_at s 2 && zero_at s 3
 
 -- an operation where a test holds, else a bad record
-abbrev pub good_if : Bool → Operation → OperationRecord
-good_if test op = pick test (OperationRecord.Good op) OperationRecord.Bad
+abbrev pub good_if : Bool → Operation → Result Operation Refusal
+good_if test op = pick test (Ok op) (Err BadRecord)
 
 -- word is zero in a read; address and word are zero in idle
-unfoldable pub operation_from : (kind address word : ℕ) → OperationRecord
+unfoldable pub operation_from : (kind address word : ℕ) → Result Operation Refusal
 operation_from kind address word =
     pick (eqb kind idle_record_kind)
     (good_if (eqb address 0 && eqb word 0) Idle)
@@ -39,20 +40,20 @@ operation_from kind address word =
     (good_if (eqb kind write_record_kind) (Write (record { 0 = address }) word)))
 
 -- bad: a record has the wrong length, is of unknown kind, or has a nonzero byte where zero is due
-unfoldable pub operation_of : List ℕ → OperationRecord
+unfoldable pub operation_of : List ℕ → Result Operation Refusal
 operation_of s =
     pick (eqb (length s) operation_size && operation_zeros s)
     (operation_from (byte_at s 0) (number_at 4 s 4) (number_at 4 s 8))
-    OperationRecord.Bad
+    (Err BadRecord)
 
 -- the document's number for each case, and its value: the operation, or none
-abbrev pub operation_answer : OperationRecord → ℕ
-operation_answer (OperationRecord.Good op) = done
-operation_answer OperationRecord.Bad = bad_record
+abbrev pub operation_answer : Result Operation Refusal → ℕ
+operation_answer (Ok op) = done
+operation_answer (Err r) = number r
 
-abbrev pub operation_or : Operation → OperationRecord → Operation
-operation_or none (OperationRecord.Good op) = op
-operation_or none OperationRecord.Bad = none
+abbrev pub operation_or : Operation → Result Operation Refusal → Operation
+operation_or none (Ok op) = op
+operation_or none (Err r) = none
 
 -- kind, three zero bytes, address (4), word (4)
 abbrev pub operation_layout : (kind address word : ℕ) → List ℕ
@@ -65,5 +66,5 @@ operation_bytes (Read x) = operation_layout read_record_kind x.0 0
 operation_bytes (Write x word) = operation_layout write_record_kind x.0 word
 
 -- writing a record refuses a room of another length by 2, and then leaves the room unchanged
-unfoldable pub operation_written : Operation → List ℕ → ℕ × List ℕ
-operation_written op room = pick (eqb (length room) operation_size) (done, operation_bytes op) (bad_length, room)
+unfoldable pub operation_written : Operation → List ℕ → Result ⊤ Refusal × List ℕ
+operation_written op room = pick (eqb (length room) operation_size) (Ok tt, operation_bytes op) (Err BadLength, room)

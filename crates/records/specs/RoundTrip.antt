@@ -1,5 +1,5 @@
 -- Reading and writing an operation turn each other round: the statements. proofs/RoundTrip.antt proves them.
-use Rattle.std.specs.Prelude.{ℕ, ◌^◌, ◌<◌, ◌≡◌, ◌⊎◌, List, length}
+use Rattle.std.specs.Prelude.{ℕ, ◌^◌, ◌<◌, ◌≡◌, ◌⊎◌, List, length, Ok}
 use Rattle.answers.specs.Answers.{done, bad_record}
 use Rattle.port.specs.declared.Operation.{Operation}
 use Rattle.port.specs.declared.Operation.TheVariants.{Idle, Read, Write}
@@ -18,14 +18,14 @@ Fits (Write x word) = FitsWord x.0 × FitsWord word
 -- writing into a room of 12 bytes answers 0, and reading what it then holds answers 0 and gives the operation back
 abbrev pub OperationReadAsWritten : Type 0
 OperationReadAsWritten = (op none : Operation) (room : List ℕ) → Fits op → length room ≡ operation_size
-    → ((operation_written op room).0 ≡ done)
+    → ((operation_written op room).0 ≡ Ok tt)
     × (operation_answer (operation_of (operation_written op room).1) ≡ done)
     × (operation_or none (operation_of (operation_written op room).1) ≡ op)
 
 -- where reading answers 0, writing what was read gives the same bytes
 abbrev pub OperationWrittenAsRead : Type 0
 OperationWrittenAsRead = (bytes room : List ℕ) (none : Operation) → Bytes bytes → operation_answer (operation_of bytes) ≡ done
-    → length room ≡ operation_size → operation_written (operation_or none (operation_of bytes)) room ≡ (done, bytes)
+    → length room ≡ operation_size → operation_written (operation_or none (operation_of bytes)) room ≡ (Ok tt, bytes)
 
 -- and else it answers 9, so exactly for what no operation is written as
 abbrev pub OperationAnswered : Type 0

@@ -2,20 +2,13 @@
 #![tactic(auto)]
 
 ghost use Rattle.std.specs.Prelude.{◌≡◌, ◌<◌, length};
-ghost use Rattle.answers.specs.Answers.{done};
 ghost use Rattle.octets.specs.Bytes.{base};
 ghost use Rattle.records.specs.Records.{good_if, operation_size, operation_from, operation_of, operation_layout, operation_written};
 
+use answers::Refusal;
 use map::Address;
 use octets::{four_at, put_first, put_four, wide};
 use port::Operation;
-
-// What an operation record holds; a bad one is answer 9.
-#[derive(Clone, Copy)]
-pub enum OperationRecord {
-    Good(Operation),
-    Bad,
-}
 
 pub const OPERATION_BYTES: usize = 12;
 
@@ -30,35 +23,36 @@ const ADDRESS_AT: usize = 4;
 
 const WORD_AT: usize = 8;
 
-fn good_if(test: bool, op: Operation) -> OperationRecord
+fn good_if(test: bool, op: Operation) -> Result<Operation, Refusal>
     ensures { result ≡ good_if test op }
 {
     if test {
-        OperationRecord::Good(op)
+        Ok(op)
     } else {
-        OperationRecord::Bad
+        Err(Refusal::BadRecord)
     }
 }
 
 // The operation that a record's numbers mean.
-pub fn operation_from(kind: u32, address: u32, word: u32) -> OperationRecord
+#[tactic(auto, unfolding(crate::specs::Records::operation_from))]
+pub fn operation_from(kind: u32, address: u32, word: u32) -> Result<Operation, Refusal>
     ensures { result ≡ operation_from kind address word }
 {
-    if kind == KIND_IDLE {
-        return good_if((address == 0) & (word == 0), Operation::Idle);
+    match kind {
+        KIND_IDLE => good_if((address == 0) & (word == 0), Operation::Idle),
+        KIND_READ => good_if(word == 0, Operation::Read(Address(address))),
+        KIND_WRITE => Ok(Operation::Write(Address(address), word)),
+        _ => Err(Refusal::BadRecord),
     }
-    if kind == KIND_READ {
-        return good_if(word == 0, Operation::Read(Address(address)));
-    }
-    good_if(kind == KIND_WRITE, Operation::Write(Address(address), word))
 }
 
 // The operation in a record, or that the record is bad.
-pub fn read_operation(bytes: &[u8]) -> OperationRecord
+#[tactic(auto, unfolding(crate::specs::Records::operation_of))]
+pub fn read_operation(bytes: &[u8]) -> Result<Operation, Refusal>
     ensures { result ≡ operation_of bytes.now }
 {
     if bytes.len() != OPERATION_BYTES {
-        return OperationRecord::Bad;
+        return Err(Refusal::BadRecord);
     }
     if (bytes[1] == 0) & (bytes[2] == 0) & (bytes[3] == 0) {
         operation_from(
@@ -67,31 +61,32 @@ pub fn read_operation(bytes: &[u8]) -> OperationRecord
             four_at(bytes, WORD_AT),
         )
     } else {
-        OperationRecord::Bad
+        Err(Refusal::BadRecord)
     }
 }
 
 // Fills a room of an operation's size.
-fn put_operation(room: &mut [u8], kind: u32, address: u32, word: u32) -> u32
+fn put_operation(room: &mut [u8], kind: u32, address: u32, word: u32)
     requires { (length room.old ≡ operation_size) × (kind < base) }
-    ensures { (result ≡ done) × (room.new ≡ operation_layout kind address word) }
+    ensures { room.new ≡ operation_layout kind address word }
 {
     put_first(room, kind as u8, 0, 0, 0);
     put_four(room, ADDRESS_AT, address);
     put_four(room, WORD_AT, word);
-    answers::DONE
 }
 
 // Writes an operation over the whole room; a room of another length is refused by 2.
-pub fn write_operation(op: Operation, room: &mut [u8]) -> u32
+#[tactic(auto, unfolding(crate::specs::Records::operation_written, crate::specs::Records::operation_bytes))]
+pub fn write_operation(op: Operation, room: &mut [u8]) -> Result<(), Refusal>
     ensures { (result, room.new) ≡ operation_written op room.old }
 {
     if room.len() != OPERATION_BYTES {
-        return answers::BAD_LENGTH;
+        return Err(Refusal::BadLength);
     }
     match op {
         Operation::Idle => put_operation(room, KIND_IDLE, 0, 0),
         Operation::Read(x) => put_operation(room, KIND_READ, x.0, 0),
         Operation::Write(x, word) => put_operation(room, KIND_WRITE, x.0, word),
     }
+    Ok(())
 }

@@ -4,4 +4,4 @@ use Rattle.records.proofs.Operation.{stored}
 use Rattle.records.proofs.put_operation.Goals as goal
 
 pub returns : goal.returns
-returns c = (search rules, search (rules, stored))
+returns c = search (rules, stored)
