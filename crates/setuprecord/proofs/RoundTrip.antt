@@ -1,4 +1,5 @@
 -- Reading and writing a setup turn each other round: the statements of specs/RoundTrip.antt. Assumes nothing.
+use Rattle.std.specs.Prelude.{Result, Ok, Err}
 use Prim.Native.Nat.{ℕ, ◌^◌, ◌≤◌, ◌<◌}
 use mathlib.Core.Path.{◌≡◌, refl, ap, ◌∙◌}
 use mathlib.Core.Logic.{◌⊎◌, inl, inr}
@@ -10,14 +11,17 @@ use lib.Dec.{eqb}
 use lib.ListN.{length, drop_of_length-le}
 use lib.Pow.{pow_mono}
 use borrow.Author.Tests.{eqb-true}
+use Rattle.answers.specs.declared.Refusal.{Refusal}
+use Rattle.answers.specs.declared.Refusal.TheVariants.{BadSetup}
 use Rattle.answers.specs.Answers.{done, bad_setup}
+use Rattle.answers.proofs.Numbers.{number_range}
 use Rattle.choice.specs.Choice.{pick}
+use Rattle.choice.proofs.Tests.{pick_good}
 use Rattle.setup.specs.Setup.{with_defaults, in_range, checked_of, Ranges}
 use Rattle.setup.specs.declared.Setup.{Setup}
 use Rattle.setup.proofs.Ranges.{and_l, and_r, good_ranges}
 use Rattle.octets.specs.Bytes.{base, byte_at, Bytes, number_at, bytes_of}
 use Rattle.octets.proofs.Numbers.{number_bytes, bytes_number, bytes_byte}
-use Rattle.setuprecord.specs.declared.SetupRecord.{SetupRecord}
 use Rattle.setuprecord.specs.SetupRecord.{setup_size, setup_fields, setup_zeros, allowed, setup_of, record_answer, recorded_or, setup_bytes, setup_written}
 use Rattle.setuprecord.specs.RoundTrip.{SetupReadAsWritten, SetupWrittenAsRead, SetupAnswered}
 use Rattle.setuprecord.proofs.Choice.{first}
@@ -54,12 +58,12 @@ fields_read s r =
       number_bytes 4 s.v bytes _ 16 (below-words s.v s.a r.map.v_below ha) refl,
     )
 
-setup_good : (s : Setup) → allowed s ≡ true → setup_of (setup_bytes s) ≡ SetupRecord.Good s
+setup_good : (s : Setup) → allowed s ≡ true → setup_of (setup_bytes s) ≡ Ok s
 unfolding setup_of setup_bytes bytes_of
 setup_good s h = rw (fields_read s (allowed-ranges s h), h)
 
 -- a setup in range is written into a room of the record's length
-written_there : (s : Setup) (room : List ℕ) → in_range (with_defaults s) ≡ true → length room ≡ setup_size → setup_written s room ≡ (done, setup_bytes s)
+written_there : (s : Setup) (room : List ℕ) → in_range (with_defaults s) ≡ true → length room ≡ setup_size → setup_written s room ≡ (Ok tt, setup_bytes s)
 unfolding setup_written allowed
 written_there s room h l = rw (h, l)
 
@@ -71,7 +75,7 @@ setup-read_as_written s none room h l =
 ------------------------------------------------------------------------
 -- Writing what was read gives the same bytes
 
-refused-not_good : (s : Setup) → SetupRecord.Refused ≡ SetupRecord.Good s → ⊥
+refused-not_good : (s : Setup) → Err BadSetup ≡ Ok s → ⊥
 refused-not_good s h = let z : ◌≡◌ {A = ℕ} 0 1 = cc in omega arith
 
 fields_bytes : (s : List ℕ) → Bytes s → length s ≡ setup_size → byte_at s 10 ≡ 0 → byte_at s 11 ≡ 0
@@ -99,12 +103,12 @@ fields_bytes s b h z₀ z₁ = one_by_one
           drop_of_length-le s {i = setup_size} (omega arith),
         )
 
-good_written : (bytes : List ℕ) (s : Setup) → Bytes bytes → setup_of bytes ≡ SetupRecord.Good s
+good_written : (bytes : List ℕ) (s : Setup) → Bytes bytes → setup_of bytes ≡ Ok s
     → (in_range (with_defaults s) ≡ true) × (setup_bytes s ≡ bytes)
 unfolding setup_of allowed
 good_written bytes s b h =
     let f : Setup = setup_fields bytes in
-    let p = first (eqb (length bytes) setup_size && setup_zeros bytes && allowed f) (SetupRecord.Good f) SetupRecord.Refused (SetupRecord.Good s) (refused-not_good s) h in
+    let p = first (eqb (length bytes) setup_size && setup_zeros bytes && allowed f) (Ok f) (Err BadSetup) (Ok s) (refused-not_good s) h in
     let same : s ≡ f = cc p.1 in
     let within : allowed f ≡ true = search (and_l, and_r) in
     let z₀ : byte_at bytes 10 ≡ 0 = search (and_l, and_r, eqb-true) in
@@ -114,16 +118,17 @@ good_written bytes s b h =
 pub setup-written_as_read : SetupWrittenAsRead
 setup-written_as_read bytes room none b = go (setup_of bytes) refl
   where
-    go : (r : SetupRecord) → setup_of bytes ≡ r → record_answer r ≡ done → length room ≡ setup_size
-        → (in_range (with_defaults (recorded_or none r)) ≡ true) × (setup_written (recorded_or none r) room ≡ (done, bytes))
-    go (SetupRecord.Good s) e h l =
+    go : (r : Result Setup Refusal) → setup_of bytes ≡ r → record_answer r ≡ done → length room ≡ setup_size
+        → (in_range (with_defaults (recorded_or none r)) ≡ true) × (setup_written (recorded_or none r) room ≡ (Ok tt, bytes))
+    go (Ok s) e h l =
         let w = good_written bytes s b e in
-        (w.0, written_there s room w.0 l ∙ ap (λ (x : List ℕ). (done, x)) w.1)
-    go SetupRecord.Refused e h l = absurd (omega (arith, h))
+        (w.0, written_there s room w.0 l ∙ ap (λ (x : List ℕ). (Ok tt, x)) w.1)
+    go (Err q) e h l = absurd (omega (arith, h, (number_range q).0))
 
-answered : (r : SetupRecord) → (record_answer r ≡ done) ⊎ (record_answer r ≡ bad_setup)
-answered (SetupRecord.Good s) = inl refl
-answered SetupRecord.Refused = inr refl
+Answered : Result Setup Refusal → Type 0
+Answered r = (record_answer r ≡ done) ⊎ (record_answer r ≡ bad_setup)
 
 pub setup_answered : SetupAnswered
-setup_answered bytes = answered (setup_of bytes)
+unfolding setup_of Answered
+setup_answered bytes =
+    pick_good Answered (eqb (length bytes) setup_size && setup_zeros bytes && allowed (setup_fields bytes)) (inl refl) (inr refl)

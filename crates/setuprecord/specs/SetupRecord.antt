@@ -1,11 +1,12 @@
 -- The document's "Records": the setup record.
-use Rattle.std.specs.Prelude.{ℕ, Bool, ◌&&◌, List, [], ◌∷◌, ◌++◌, eqb, length}
-use Rattle.answers.specs.Answers.{done, bad_setup, bad_length}
+use Rattle.std.specs.Prelude.{ℕ, Bool, ◌&&◌, List, [], ◌∷◌, ◌++◌, eqb, length, ⊤, Result, Ok, Err}
+use Rattle.answers.specs.declared.Refusal.{Refusal}
+use Rattle.answers.specs.declared.Refusal.TheVariants.{BadSetup, BadLength}
+use Rattle.answers.specs.Answers.{done, number}
 use Rattle.choice.specs.Choice.{pick}
 use Rattle.setup.specs.Setup.{with_defaults, in_range}
 use Rattle.setup.specs.declared.Setup.{Setup}
 use Rattle.octets.specs.Bytes.{byte_at, number_at, bytes_of, zero_at, zeros}
-use Rattle.setuprecord.specs.declared.SetupRecord.{SetupRecord}
 
 -- a setup has 20 bytes
 abbrev pub setup_size : ℕ
@@ -35,20 +36,20 @@ unfoldable pub allowed : Setup → Bool
 allowed s = in_range (with_defaults s)
 
 -- wrong zero bytes or a wrong length of a setup count as answer 1
-unfoldable pub setup_of : List ℕ → SetupRecord
+unfoldable pub setup_of : List ℕ → Result Setup Refusal
 setup_of s =
     pick (eqb (length s) setup_size && setup_zeros s && allowed (setup_fields s))
-    (SetupRecord.Good (setup_fields s))
-    SetupRecord.Refused
+    (Ok (setup_fields s))
+    (Err BadSetup)
 
 -- the document's number for each case, and its value: the setup as written, a default given as 0 still 0, or none
-abbrev pub record_answer : SetupRecord → ℕ
-record_answer (SetupRecord.Good s) = done
-record_answer SetupRecord.Refused = bad_setup
+abbrev pub record_answer : Result Setup Refusal → ℕ
+record_answer (Ok s) = done
+record_answer (Err r) = number r
 
-abbrev pub recorded_or : Setup → SetupRecord → Setup
-recorded_or none (SetupRecord.Good s) = s
-recorded_or none SetupRecord.Refused = none
+abbrev pub recorded_or : Setup → Result Setup Refusal → Setup
+recorded_or none (Ok s) = s
+recorded_or none (Err r) = none
 
 -- a default given as 0 is written as 0
 unfoldable pub setup_bytes : Setup → List ℕ
@@ -62,8 +63,8 @@ setup_bytes s =
     ++ bytes_of 4 s.v
 
 -- writing a record refuses an out-of-range setup by 1, then a room of another length by 2, and then leaves the room unchanged
-unfoldable pub setup_written : Setup → List ℕ → ℕ × List ℕ
+unfoldable pub setup_written : Setup → List ℕ → Result ⊤ Refusal × List ℕ
 setup_written s room =
     pick (allowed s)
-    (pick (eqb (length room) setup_size) (done, setup_bytes s) (bad_length, room))
-    (bad_setup, room)
+    (pick (eqb (length room) setup_size) (Ok tt, setup_bytes s) (Err BadLength, room))
+    (Err BadSetup, room)

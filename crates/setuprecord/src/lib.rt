@@ -3,19 +3,12 @@
 
 ghost use Rattle.std.specs.Prelude.{◌≡◌, ◌++◌, length};
 ghost use Rattle.std.proofs.lemmas.List.Edits.{sets};
-ghost use Rattle.answers.specs.Answers.{done};
 ghost use Rattle.octets.specs.Bytes.{bytes_of, zeros};
 ghost use Rattle.setuprecord.specs.SetupRecord.{setup_size, setup_fields, allowed, setup_of, setup_bytes, setup_written};
 
+use answers::Refusal;
 use octets::{four_at, put_first, put_four, put_two, two_at};
-use setup::{Checked, Setup};
-
-// What a setup record holds, a default given as 0 still 0; a refused one is answer 1.
-#[derive(Clone, Copy)]
-pub enum SetupRecord {
-    Good(Setup),
-    Refused,
-}
+use setup::Setup;
 
 pub const SETUP_BYTES: usize = 20;
 
@@ -33,13 +26,11 @@ const U_AT: usize = 12;
 const V_AT: usize = 16;
 
 // The setup is in range once its defaults are in.
+#[tactic(auto, using(crate::proofs::Setup::is_allowed))]
 fn allowed(s: Setup) -> bool
     ensures { result ≡ allowed s }
 {
-    match Setup::checked(s) {
-        Checked::Good(_) => true,
-        Checked::Refused => false,
-    }
+    Setup::checked(s).is_ok()
 }
 
 // The numbers in a setup record, whatever they are.
@@ -60,18 +51,19 @@ fn setup_fields(bytes: &[u8]) -> Setup
     }
 }
 
-// The setup in a record, or that the record is refused.
-pub fn read_setup(bytes: &[u8]) -> SetupRecord
+// The setup in a record, a default given as 0 still 0, or that the record is refused.
+#[tactic(auto, unfolding(crate::specs::SetupRecord::setup_of))]
+pub fn read_setup(bytes: &[u8]) -> Result<Setup, Refusal>
     ensures { result ≡ setup_of bytes.now }
 {
     if bytes.len() != SETUP_BYTES {
-        return SetupRecord::Refused;
+        return Err(Refusal::BadSetup);
     }
     let s = setup_fields(bytes);
     if (bytes[ZEROS_AT] == 0) & (bytes[ZEROS_AT + 1] == 0) & allowed(s) {
-        SetupRecord::Good(s)
+        Ok(s)
     } else {
-        SetupRecord::Refused
+        Err(Refusal::BadSetup)
     }
 }
 
@@ -88,28 +80,27 @@ fn put_middle(room: &mut [u8], k: u16, delta: u16, c: u16)
 }
 
 // Fills a room of a setup's size.
-fn put_setup(room: &mut [u8], s: Setup) -> u32
+fn put_setup(room: &mut [u8], s: Setup)
     requires { length room.old ≡ setup_size }
-    ensures { (result ≡ done) × (room.new ≡ setup_bytes s) }
+    ensures { room.new ≡ setup_bytes s }
 {
     put_first(room, s.mode, s.a, s.s, s.m);
     put_middle(room, s.k, s.delta, s.c);
     put_four(room, U_AT, s.u);
     put_four(room, V_AT, s.v);
-    answers::DONE
 }
 
 // Writes a setup over the whole room; out of range it is refused by 1, then a room of another length by 2.
-pub fn write_setup(s: Setup, room: &mut [u8]) -> u32
+#[tactic(auto, unfolding(crate::specs::SetupRecord::setup_written))]
+pub fn write_setup(s: Setup, room: &mut [u8]) -> Result<(), Refusal>
     ensures { (result, room.new) ≡ setup_written s room.old }
 {
-    if allowed(s) {
-        if room.len() == SETUP_BYTES {
-            put_setup(room, s)
-        } else {
-            answers::BAD_LENGTH
-        }
-    } else {
-        answers::BAD_SETUP
+    if !allowed(s) {
+        return Err(Refusal::BadSetup);
     }
+    if room.len() != SETUP_BYTES {
+        return Err(Refusal::BadLength);
+    }
+    put_setup(room, s);
+    Ok(())
 }

@@ -4,4 +4,4 @@ use Rattle.setuprecord.proofs.Setup.{stored}
 use Rattle.setuprecord.proofs.put_setup.Goals as goal
 
 pub returns : goal.returns
-returns c = (search rules, search (rules, stored))
+returns c = search (rules, stored)
