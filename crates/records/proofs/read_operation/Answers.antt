@@ -1,13 +1,12 @@
--- What `read_operation` answers: each return knows the length and the zero bytes.
-use Rattle.std.proofs.Common.{rules}
-use Rattle.records.proofs.Operation.{wrong_length, wrong_zeros, numbers-read}
+-- What `read_operation` answers: the bytes of the address and of the word are their numbers.
+use Rattle.std.proofs.Common.{rules, ◌∙◌}
+use Rattle.octets.proofs.Numbers.{four_read}
+use Rattle.records.specs.Records.{operation_of}
 use Rattle.records.proofs.read_operation.Goals as goal
 
-pub returns-then-bytes-ne-OPERATION_BYTES : goal.returns-then-bytes-ne-OPERATION_BYTES
-returns-then-bytes-ne-OPERATION_BYTES c = search (rules, wrong_length)
-
-pub returns-then-bytes : goal.returns-then-bytes
-returns-then-bytes c = search (rules, numbers-read)
-
-pub returns-else-bytes : goal.returns-else-bytes
-returns-else-bytes c = search (rules, wrong_zeros)
+pub returns : goal.returns
+unfolding operation_of
+returns c =
+    let address = c.from_le_bytes.ensures ∙ four_read c.args.bytes.now 4 in
+    let word = c.from_le_bytes-2.ensures ∙ four_read c.args.bytes.now 8 in
+    search rules
