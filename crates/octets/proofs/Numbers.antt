@@ -1,8 +1,8 @@
--- Little-endian numbers: what the functions on two and four bytes read and store, and the round trip over any width.
+-- Little-endian numbers: what the library reads and writes, and the round trip over any width.
 -- Assumes nothing.
 use Prim.Native.Nat.{ℕ, zero, suc, ◌+◌, ◌*◌, ◌/◌, ◌%◌, ◌^◌, ◌≤◌, ◌<◌}
 use mathlib.Core.Path.{◌≡◌, refl, sym, ◌∙◌}
-use mathlib.Core.List.{List, [], ◌∷◌, ◌++◌, append-nil}
+use mathlib.Core.List.{List, [], ◌∷◌, ◌++◌}
 use native.Mathlib.Nat.{add-zero, pow-suc, div-one, div-div-eq-div-mul}
 use native.Mathlib.Numerals.{add-one, add-two, add-three}
 use native.Mathlib.Omega.{arith}
@@ -24,7 +24,7 @@ module _ (s : List ℕ) (i : ℕ) where
   unfolding number_at
   four_read = rw (add-one i, add-two i, add-three i) (omega arith)
 
--- what x stands for from byte i on has byte i of x in front
+-- byte i of x is the lowest of what is left of x from there on
 byte_is : (i x : ℕ) → int.byte_at i x ≡ x / base ^ i % base
 byte_is zero x = rw (div-one x)
 byte_is (suc i) x = refl

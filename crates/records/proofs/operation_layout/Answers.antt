@@ -8,6 +8,6 @@ use Rattle.records.proofs.operation_layout.Goals as goal
 pub returns : goal.returns
 unfolding bytes_of
 returns c =
-    let address = c.to_le_bytes.ensures ∙ bytes_written w32 c.args.address in
-    let word = c.to_le_bytes-2.ensures ∙ bytes_written w32 c.args.word in
+    let address = c.to_le_bytes.ensures ∙ bytes_written w32 _ in
+    let word = c.to_le_bytes-2.ensures ∙ bytes_written w32 _ in
     rw (address, word) refl

@@ -1,13 +1,14 @@
--- What `read_setup` answers: each return knows the length, the zero bytes and the check.
+-- What `read_setup` answers: the numbers in the record are its fields.
 use Rattle.std.proofs.Common.{rules}
-use Rattle.setuprecord.proofs.Setup.{wrong_length, allowed-read, refused-read}
+use Rattle.std.proofs.lemmas.List.{places}
+use Rattle.setuprecord.specs.SetupRecord.{setup_of}
+use Rattle.setuprecord.proofs.Setup.{fields_read}
 use Rattle.setuprecord.proofs.read_setup.Goals as goal
 
-pub returns-then-bytes-ne-SETUP_BYTES : goal.returns-then-bytes-ne-SETUP_BYTES
-returns-then-bytes-ne-SETUP_BYTES c = search (rules, wrong_length)
+pub returns-then-allowed : goal.returns-then-allowed
+unfolding setup_of
+returns-then-allowed c = search (rules, places, fields_read)
 
-pub returns-then-bytes-allowed : goal.returns-then-bytes-allowed
-returns-then-bytes-allowed c = search (rules, allowed-read)
-
-pub returns-else-bytes-allowed : goal.returns-else-bytes-allowed
-returns-else-bytes-allowed c = search (rules, refused-read)
+pub returns-else-allowed : goal.returns-else-allowed
+unfolding setup_of
+returns-else-allowed c = search (rules, places, fields_read)
