@@ -34,6 +34,7 @@ fn good_if(test: bool, op: Operation) -> OperationRecord
 }
 
 // The operation that a record's numbers mean.
+#[tactic(auto, unfolding(crate::specs::Records::operation_from))]
 pub fn operation_from(kind: u32, address: u32, word: u32) -> OperationRecord
     ensures { result ≡ operation_from kind address word }
 {

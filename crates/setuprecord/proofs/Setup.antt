@@ -1,40 +1,11 @@
--- Reading and writing a setup: what each way through them gives. Assumes nothing.
+-- Reading a setup: the numbers in a record are its fields. Assumes nothing.
 use Prim.Native.Nat.{ℕ}
-use mathlib.Core.Path.{◌≡◌, sym, ◌∙◌}
-use mathlib.Core.Bool.{true, false}
-use native.Mathlib.Omega.{arith}
+use mathlib.Core.Path.{◌≡◌, ◌∙◌}
 use mathlib.Core.List.{List, [], ◌∷◌}
 use Rattle.std.specs.Int.{w16, w32, from_le_bytes}
 use Rattle.octets.specs.Bytes.{byte_at}
 use Rattle.octets.proofs.Numbers.{two_read, four_read}
 use Rattle.setuprecord.specs.SetupRecord.{setup_fields}
-use Rattle.setup.specs.Setup.{with_defaults, checked_of}
-use Rattle.setup.specs.declared.Setup.{Setup}
-use Rattle.setup.specs.declared.Checked.{Checked}
-use Rattle.setuprecord.specs.SetupRecord.{allowed}
-use Rattle.setuprecord.proofs.Choice.{first, second}
-
-------------------------------------------------------------------------
--- The check answers a setup exactly where it is in range
-
-refused-not_good : (f : Setup) → Checked.Refused ≡ Checked.Good f → ⊥
-refused-not_good f h = let z : ◌≡◌ {A = ℕ} 0 1 = cc in omega arith
-
-module _ (s : Setup) (r : Checked) where
-  pub is_allowed : (f : Setup) → r ≡ checked_of s → r ≡ Checked.Good f → true ≡ allowed s
-  unfolding allowed
-  is_allowed f e h =
-      let g : Checked = Checked.Good (with_defaults s) in
-      sym (first (allowed s) g Checked.Refused (Checked.Good f) (refused-not_good f) (sym e ∙ h)).0
-
-  pub is_refused : r ≡ checked_of s → r ≡ Checked.Refused → false ≡ allowed s
-  unfolding allowed
-  is_refused e h =
-      let g : Checked = Checked.Good (with_defaults s) in
-      sym (second (allowed s) g Checked.Refused Checked.Refused (λ x. refused-not_good _ (sym x)) (sym e ∙ h))
-
-------------------------------------------------------------------------
--- Reading
 
 -- what the library reads in the bytes are the numbers of two and four bytes
 pub fields_read : (s : List ℕ) (k delta c u v : ℕ)

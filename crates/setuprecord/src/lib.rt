@@ -16,6 +16,7 @@ pub enum SetupRecord {
 pub const SETUP_BYTES: usize = 20;
 
 // The setup is in range once its defaults are in.
+#[tactic(auto, unfolding(crate::specs::SetupRecord::allowed))]
 fn allowed(s: Setup) -> bool
     ensures { result ≡ allowed s }
 {
