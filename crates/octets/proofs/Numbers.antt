@@ -1,44 +1,41 @@
--- Little-endian numbers: what the functions on two and four bytes read and store, and the round trip over any width.
+-- Little-endian numbers: what the library reads and writes, and the round trip over any width.
 -- Assumes nothing.
 use Prim.Native.Nat.{ℕ, zero, suc, ◌+◌, ◌*◌, ◌/◌, ◌%◌, ◌^◌, ◌≤◌, ◌<◌}
 use mathlib.Core.Path.{◌≡◌, refl, sym, ◌∙◌}
-use mathlib.Core.List.{List, ◌∷◌, ◌++◌, append-nil}
-use native.Mathlib.Nat.{zero-add, add-zero, pow-suc}
-use native.Mathlib.Numerals.{add-one, add-two}
+use mathlib.Core.List.{List, [], ◌∷◌, ◌++◌}
+use native.Mathlib.Nat.{add-zero, pow-suc, div-one, div-div-eq-div-mul}
+use native.Mathlib.Numerals.{add-one, add-two, add-three}
 use native.Mathlib.Omega.{arith}
-use lib.ListN.{length, set, drop}
-use lib.Seq.{sets, sets-eq, drop-length, drop-cons, drop-drop, get_or-drop}
+use lib.ListN.{length, drop}
+use lib.Seq.{drop-cons, drop-drop, get_or-drop}
+use Rattle.std.specs.Int.{Width, w16, w32, byte_len, bytes_low_first, to_le_bytes, from_le_bytes}
+use Rattle.std.specs.Int as int
 use Rattle.octets.specs.Bytes.{base, byte_at, Bytes, number_at, bytes_of}
 
 ------------------------------------------------------------------------
--- Two and four bytes
+-- The library's numbers in bytes are those of specs/Bytes.antt
 
-module _ (s : List ℕ) (at : ℕ) where
-  pub number_of_two : (first second : ℕ) → first ≡ byte_at s at → second ≡ byte_at s (at + 1)
-      → first + base * second ≡ number_at 2 s at
+module _ (s : List ℕ) (i : ℕ) where
+  pub two_read : from_le_bytes w16 (byte_at s i ∷ byte_at s (i + 1) ∷ []) ≡ number_at 2 s i
   unfolding number_at
-  number_of_two first second e₀ e₁ = rw (e₀, e₁, add-one at) (omega arith)
+  two_read = rw (add-one i) (omega arith)
 
-  pub number_of_four : (first second : ℕ) → first ≡ number_at 2 s at → second ≡ number_at 2 s (at + 2)
-      → first + base * base * second ≡ number_at 4 s at
+  pub four_read : from_le_bytes w32 (byte_at s i ∷ byte_at s (i + 1) ∷ byte_at s (i + 2) ∷ byte_at s (i + 3) ∷ []) ≡ number_at 4 s i
   unfolding number_at
-  number_of_four first second e₀ e₁ = rw (e₀, e₁, add-two at) (omega arith)
+  four_read = rw (add-one i, add-two i, add-three i) (omega arith)
 
-module _ (room : List ℕ) (at x : ℕ) where
-  pub stored-two : (b₀ b₁ : ℕ) → b₀ ≡ x % base → b₁ ≡ x / base % base
-      → set (set room at b₀) (at + 1) b₁ ≡ sets room at (bytes_of 2 x)
-  unfolding bytes_of
-  stored-two b₀ b₁ e₀ e₁ = rw (e₀, e₁, add-one at)
+-- byte i of x is the lowest of what is left of x from there on
+byte_is : (i x : ℕ) → int.byte_at i x ≡ x / base ^ i % base
+byte_is zero x = rw (div-one x)
+byte_is (suc i) x = refl
 
-  pub stored_four : (r₀ r₁ : List ℕ) → r₀ ≡ sets room at (bytes_of 2 x) → r₁ ≡ sets r₀ (at + 2) (bytes_of 2 (x / base / base))
-      → r₁ ≡ sets room at (bytes_of 4 x)
-  unfolding bytes_of
-  stored_four r₀ r₁ e₀ e₁ = rw (e₁, e₀, add-two at)
+bytes_from : (n i x : ℕ) → bytes_low_first i n x ≡ bytes_of n (x / base ^ i)
+unfolding bytes_of
+bytes_from zero i x = refl
+bytes_from (suc n) i x = rw (bytes_from n (suc i) x, div-div-eq-div-mul x (base ^ i) base, pow-suc base i, byte_is i x)
 
--- a room that is stored over from its start to its end holds what was stored
-pub filled : (room bytes : List ℕ) → length room ≡ length bytes → sets room 0 bytes ≡ bytes
-filled room bytes h =
-    sets-eq bytes room 0 (omega arith) ∙ rw (zero-add (length bytes), ← h, drop-length room) (append-nil bytes)
+pub bytes_written : (w : Width) (x : ℕ) → to_le_bytes w x ≡ bytes_of (byte_len w) x
+bytes_written w x = bytes_from (byte_len w) 0 x ∙ rw (div-one x)
 
 ------------------------------------------------------------------------
 -- The round trip of a number of n bytes

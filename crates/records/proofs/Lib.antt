@@ -1,4 +1,3 @@
-pub mod Operation
 pub mod RoundTrip
 pub mod OneResult
 pub mod Examples
