@@ -7,7 +7,7 @@ use mathlib.Core.Path.{◌≡◌, sym, ◌∙◌}
 use lib.Bits.{bit_or}
 use lib.Dec.{eqb}
 use borrow.Author.Tests.{eqb-true}
-use Rattle.flat.proofs.Flat.{le_or_l, le_or_r}
+use Rattle.std.proofs.lemmas.Nat.{le_or_l, le_or_r}
 use Rattle.model.specs.Lent.{count_of}
 use Rattle.heads.specs.Heads.{Quiet}
 use Rattle.heads.proofs.four_quiet.Goals as goal
