@@ -7,7 +7,7 @@ pub returns-then-told : goal.returns-then-told
 returns-then-told c = search told_none
 
 pub all_ok-requires : goal.all_ok-requires
-all_ok-requires c = (search rules, search rules, search told_below, search rules, search rules)
+all_ok-requires c = (search rules, search rules, search told_below, search rules)
 
 pub returns : goal.returns
 returns c = search told-out
