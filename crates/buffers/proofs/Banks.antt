@@ -14,14 +14,14 @@ use Rattle.map.specs.declared.Map.{Map}
 use Rattle.model.proofs.Buffers.{placed-full, placed-room}
 use Rattle.model.proofs.Range.{head_oldest, head_count}
 use Rattle.rings.proofs.Rings.{onward-below, part_within}
-use Rattle.model.specs.Cycle.{placed_at, placed}
+use Rattle.model.specs.Cycle.{oldest_entry, placed_at, placed}
 use Rattle.rings.specs.Places.{onward}
-use Rattle.model.specs.Lent.{Buffers, entry_numbers, buffers_in, put_entry, oldest_of, count_of, put_head}
+use Rattle.model.specs.Lent.{Buffers, entry_numbers, buffers_in, put_entry, oldest_of, count_of, put_head, entry_with, entry_at}
 use Rattle.model.specs.Range.{head_ok, GoodBuffers}
 use Rattle.model.specs.declared.Entry.{Entry}
 use Rattle.model.specs.declared.Head.{Head}
 use Rattle.buffers.specs.Bank.{part_start, Buffer}
-use Rattle.buffers.proofs.Parts.{put_part}
+use Rattle.buffers.proofs.Parts.{four_part, put_part}
 
 ------------------------------------------------------------------------
 -- What they ask
@@ -38,14 +38,21 @@ good_buffer s entries heads r g b l =
 -- What they leave
 
 -- head is bank b's, and its part is cut out from start up to end
-module _ (s : Setup) (b : ℕ) (entries heads : List ℕ) (asked : Buffer s b (buffers_in entries heads)) (head : Head) (o : head.oldest ≡ oldest_of heads b) (n : head.count ≡ count_of heads b) where
+module _ (s : Setup) (b : ℕ) (entries heads : List ℕ) (asked : Buffer s b (buffers_in entries heads)) (head : Head) (o : head.oldest ≡ oldest_of heads b) where
+  pub oldest_left : (e : Entry) (start end : ℕ) → start ≡ part_start s b → end ≡ part_start s b + entry_numbers * s.k
+      → e ≡ entry_at (mid_of start (end - start) entries) head.oldest → e ≡ oldest_entry s b (buffers_in entries heads)
+  oldest_left e start end es ee r =
+      let m : ℕ = part_start s b + entry_numbers * s.k - part_start s b in
+      let below : oldest_of heads b < s.k = asked.head.oldest_below in
+      r ∙ rw (o, es, ee) (four_part (b * s.k) m entries (oldest_of heads b) (omega arith) entry_with)
+
   -- the part and the heads once the entry is placed
-  pub placed_left : (e : Entry) (start end : ℕ) (part heads' : List ℕ) → count_of heads b < s.k
+  pub placed_left : (e : Entry) (start end : ℕ) (part heads' : List ℕ) → head.count ≡ count_of heads b → count_of heads b < s.k
       → start ≡ part_start s b → end ≡ part_start s b + entry_numbers * s.k
       → part ≡ put_entry (mid_of start (end - start) entries) (onward s.k head.oldest head.count) e
       → heads' ≡ put_head heads b head.oldest (head.count + 1)
       → buffers_in (put_mid start (end - start) entries part) heads' ≡ placed_at s b e (buffers_in entries heads)
-  placed_left e start end part heads' l es ee p h =
+  placed_left e start end part heads' n l es ee p h =
       let j : ℕ = onward s.k (oldest_of heads b) (count_of heads b) in
       let i : j < s.k = onward-below s.k (oldest_of heads b) (count_of heads b) asked.head.oldest_below asked.head.count_most in
       let m : ℕ = part_start s b + entry_numbers * s.k - part_start s b in

@@ -62,6 +62,7 @@ pub fn part(s: Setup, b: usize) -> Range<usize>
 }
 
 // The oldest entry of bank b's buffer.
+#[tactic(auto, using(crate::proofs::Banks::oldest_left))]
 pub fn oldest_entry(s: Setup, b: usize, entries: &[u32], heads: &[u32]) -> Entry
     requires { Buffer s b (buffers_in entries.now heads.now) }
     ensures { result ≡ oldest_entry s b (buffers_in entries.now heads.now) }
@@ -90,6 +91,7 @@ fn place_at(s: Setup, b: usize, e: Entry, entries: &mut [u32], heads: &mut [u32]
 }
 
 // Places an entry in the buffer of its cell's bank; false, and nothing changed, where that holds K.
+#[tactic(auto, using(crate::proofs::Banks::place_full, crate::proofs::Banks::place_free))]
 pub fn place(s: Setup, e: Entry, entries: &mut [u32], heads: &mut [u32]) -> bool
     requires { Buffer s (bank_of (map_of s) e.cell) (buffers_in entries.old heads.old) }
     ensures { (result, buffers_in entries.new heads.new)
