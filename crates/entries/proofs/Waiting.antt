@@ -120,8 +120,8 @@ module _ (s : Setup) (entries heads : List ℕ) (k banks : ℕ) (ek : k ≡ s.k)
     told_below h = heads_each (k + 1) (omega arith) (sym (ap (λ (x : Look). x.below) e) ∙ h)
 
     -- one is not
-    pub told-out : r.below ≡ false → false ≡ buffers_ok s (buffers_in entries heads) (banks_of s)
-    told-out h = out (buffers_ok s (buffers_in entries heads) (banks_of s)) refl
+    pub told_out : r.below ≡ false → false ≡ buffers_ok s (buffers_in entries heads) (banks_of s)
+    told_out h = out (buffers_ok s (buffers_in entries heads) (banks_of s)) refl
       where
         out : (t : Bool) → buffers_ok s (buffers_in entries heads) (banks_of s) ≡ t → false ≡ t
         out false x = refl

@@ -27,6 +27,7 @@ fn entry_ok(part: &[u32], i: usize, n: u32, c: u32) -> bool
 }
 
 // The waiting entries of a buffer of k places, from the oldest on.
+#[tactic(auto, using(crate::proofs::Waiting::at_first, crate::proofs::Waiting::at_next, crate::proofs::Waiting::part_more, crate::proofs::Waiting::part_out, crate::proofs::Waiting::part_all), unfolding(crate::specs::Entries::part_ok))]
 fn part_ok(part: &[u32], k: usize, head: Head, n: u32, c: u32) -> bool
     requires { (length part.now ≡ entry_numbers * k) × (head.oldest < k) × (head.count ≤ k) × (k ≤ 128) }
     ensures { result ≡ part_ok n c k head.oldest part.now head.count }
@@ -42,6 +43,7 @@ fn part_ok(part: &[u32], k: usize, head: Head, n: u32, c: u32) -> bool
 }
 
 // The entries that wait at bank b, whose head is in range; of n words.
+#[tactic(auto, using(crate::proofs::Waiting::waiting_left))]
 fn waiting_ok(s: Setup, n: u32, b: usize, entries: &[u32], heads: &[u32]) -> bool
     requires { Buffer s b (buffers_in entries.now heads.now) × (n ≡ words_of s) }
     ensures { result
@@ -80,6 +82,7 @@ fn crowded(s: Setup, heads: &[u32]) -> bool
 }
 
 // The same: where many wait, yes at once if every place of the entry room is in range as it stands, whether it waits or not.
+#[tactic(auto, using(crate::proofs::Waiting::all_plain))]
 fn all_ok(s: Setup, n: u32, entries: &[u32], heads: &[u32]) -> bool
     requires { Ranges s × Room s (buffers_in entries.now heads.now) × HeadsOk s heads.now × (n ≡ words_of s) }
     ensures { result ≡ buffers_ok s (buffers_in entries.now heads.now) (banks_of s) }
@@ -94,6 +97,7 @@ fn all_ok(s: Setup, n: u32, entries: &[u32], heads: &[u32]) -> bool
 }
 
 // Each of the B buffers, of n words: the heads all at once, oldest places below K and counts at most K, then what waits, if anything does.
+#[tactic(auto, using(crate::proofs::Waiting::told_none, crate::proofs::Waiting::told_below, crate::proofs::Waiting::told_out))]
 pub fn buffers_ok(s: Setup, n: u32, entries: &[u32], heads: &[u32]) -> bool
     requires { Ranges s × Room s (buffers_in entries.now heads.now) × (n ≡ words_of s) }
     ensures { result ≡ buffers_ok s (buffers_in entries.now heads.now) (banks_of s) }
