@@ -33,7 +33,7 @@ fn part_ok(part: &[u32], k: usize, head: Head, n: u32, c: u32) -> bool
     ensures { result ≡ part_ok n c k head.oldest part.now head.count }
 {
     let mut at = head.oldest as usize;
-    for _i in 0..head.count {
+    for _ in 0..head.count {
         if !entry_ok(part, at, n, c) {
             return false;
         }
