@@ -1,11 +1,11 @@
 -- What `put_delivery` asks and leaves: each arm knows the delivery, and so its text.
-use Rattle.std.proofs.Common.{rules, arith}
+use Rattle.std.proofs.Common.{arith}
 use Rattle.decimal.proofs.Digits.{word_most_lem}
 use Rattle.listing.proofs.Lines.{text_none, text_unready, text_word, text_stored}
 use Rattle.listing.proofs.put_delivery.Goals as goal
 
 pub put_number-requires : goal.put_number-requires
-put_number-requires c = (search rules, omega (arith, word_most_lem c.in-Word.word (omega arith)))
+put_number-requires c = omega (arith, word_most_lem c.in-Word.word (omega arith))
 
 pub returns-in-None : goal.returns-in-None
 returns-in-None c =

@@ -5,7 +5,7 @@ use Rattle.listing.proofs.Lines.{field_stored, length-field}
 use Rattle.listing.proofs.put_field.Goals as goal
 
 pub put_number-after-requires : goal.put_number-after-requires
-put_number-after-requires c = (search rules, omega (arith, number_most_lem c.args.n (omega arith)))
+put_number-after-requires c = omega (arith, number_most_lem c.args.n (omega arith))
 
 pub put_byte-requires : goal.put_byte-requires
 put_byte-requires c = omega (arith, number_most_lem c.args.n (omega arith))

@@ -5,11 +5,11 @@ use Rattle.listing.proofs.put_line.Goals as goal
 
 pub put_field-third-requires : goal.put_field-third-requires
 put_field-third-requires c =
-    (search rules, omega (arith, number_field c.args.number (omega arith), word_field c.args.answer (omega arith)))
+    omega (arith, number_field c.args.number (omega arith), word_field c.args.answer (omega arith))
 
 pub put_delivery-end-requires : goal.put_delivery-end-requires
 put_delivery-end-requires c =
-    (search rules, omega (arith, number_field c.args.number (omega arith), word_field c.args.answer (omega arith)))
+    omega (arith, number_field c.args.number (omega arith), word_field c.args.answer (omega arith))
 
 pub put_byte-requires : goal.put_byte-requires
 put_byte-requires c =
