@@ -53,14 +53,3 @@ module _ (room : List ℕ) (at : ℕ) (xs ys : List ℕ) where
       let tail : drop (end + length ys) (stored room at xs) ≡ drop (end + length ys) room = rw (← drop-drop (length ys) end (stored room at xs), drop-stored room at xs h) (drop-drop (length ys) end room) in
       let long : end + length ys ≡ at + length (xs ++ ys) = rw (length-append xs ys) (omega arith) in
       rw (head, tail, long, append_assoc (take at room) xs ys)
-
-------------------------------------------------------------------------
--- One part more, put behind the others
-
-pub room_next : (room room' : List ℕ) (at : ℕ) (xs ys : List ℕ) (room₀ : List ℕ) (start : ℕ) → start ≤ length room₀
-    → room ≡ stored room₀ start xs → at ≡ start + length xs → room' ≡ stored room at ys
-    → room' ≡ stored room₀ start (xs ++ ys)
-room_next room room' at xs ys room₀ start h e a e' = rw (e', a, e) (stored-after room₀ start xs ys h)
-
-pub place_next : (start at after : ℕ) (xs ys : List ℕ) → at ≡ start + length xs → after ≡ at + length ys → after ≡ start + length (xs ++ ys)
-place_next start at after xs ys a a' = rw (length-append xs ys) (omega arith)

@@ -2,16 +2,35 @@
 #![tactic(auto)]
 
 ghost use Rattle.std.specs.Prelude.{◌≡◌, [], ◌∷◌, ◌+◌, ◌≤◌, ◌<◌, length};
-ghost use Rattle.decimal.specs.Decimal.{decimal, stored};
+ghost use Rattle.decimal.specs.Decimal.{decimal};
+ghost use Rattle.decimal.specs.Texts.{Appends};
 
-// Puts a byte at a place, and answers the place after it.
-#[tactic(auto, using(crate::proofs::Stores::stored_byte))]
-pub fn put_byte(out: &mut [u8], at: usize, byte: u8) -> usize
-    requires { at < length out.old }
-    ensures { (out.new ≡ stored out.old at (byte ∷ [])) × (result ≡ at + 1) }
-{
-    out[at] = byte;
-    at + 1
+// A text in a room, which grows at its end.
+#[derive(Drop)]
+pub struct Text<'a> {
+    pub room: &'a mut [u8],
+    pub end: usize,
+}
+
+impl Text<'_> {
+    // Puts a byte behind the text.
+    pub fn put_byte(&mut self, byte: u8)
+        requires { self.old.end < length self.old.room.now }
+        ensures { Appends self.old self.new (byte ∷ []) }
+    {
+        self.room[self.end] = byte;
+        self.end += 1;
+    }
+
+    // Puts n in decimal behind the text.
+    #[tactic(auto, using(crate::proofs::Digits::length_std, crate::proofs::Digits::number_stored))]
+    pub fn put_number(&mut self, n: u64)
+        requires { self.old.end + length (decimal n) ≤ length self.old.room.now }
+        ensures { Appends self.old self.new (decimal n) }
+    {
+        self.end += width(n);
+        itoa::write_digits(n, self.room, self.end);
+    }
 }
 
 // How many digits n has.
@@ -20,15 +39,4 @@ fn width(n: u64) -> usize
     ensures { result ≡ length (decimal n) }
 {
     n.max(1).ilog10() as usize + 1
-}
-
-// Puts n in decimal at a place, and answers the place after it.
-#[tactic(auto, using(crate::proofs::Digits::length_std, crate::proofs::Digits::number_stored))]
-pub fn put_number(out: &mut [u8], at: usize, n: u64) -> usize
-    requires { at + length (decimal n) ≤ length out.old }
-    ensures { (out.new ≡ stored out.old at (decimal n)) × (result ≡ at + length (decimal n)) }
-{
-    let after = at + width(n);
-    itoa::write_digits(n, out, after);
-    after
 }
