@@ -5,7 +5,7 @@ ghost use Rattle.std.specs.Prelude.{◌≡◌, ◌+◌, ◌*◌, ◌^◌, ◌≤
 ghost use Rattle.setup.specs.Setup.{Sizes};
 ghost use Rattle.model.specs.Lent.{lent};
 ghost use Rattle.records.specs.Records.{operation_of};
-ghost use Rattle.decimal.specs.Decimal.{ten, pair_table};
+ghost use Rattle.decimal.specs.Decimal.{ten};
 ghost use Rattle.listing.specs.Listing.{line_most};
 ghost use Rattle.replay.specs.Replay.{room_for, opening_of, setup_line, records_in, with_record, listed, listed_from, put_at, put_line, zeros_for, Opened, begun};
 
@@ -119,21 +119,13 @@ pub fn begin(s: Setup, memory: &[u32], rows: &mut [u32], entries: &[u32], heads:
 }
 
 // Puts a record's line behind the text, and counts the record.
-fn print(
-    r: Run,
-    state: State,
-    answer: u32,
-    d: Delivery,
-    on: bool,
-    table: &[u8; decimal::PAIRS],
-    out: &mut [u8],
-) -> Run
-    requires { (table.now ≡ pair_table) × (r.end + line_most ≤ length out.old) × (r.number + 1 < 2 ^ 64) }
+fn print(r: Run, state: State, answer: u32, d: Delivery, on: bool, out: &mut [u8]) -> Run
+    requires { (r.end + line_most ≤ length out.old) × (r.number + 1 < 2 ^ 64) }
     ensures { ((result, out.new)
         ≡ put_line out.old r state answer d on)
         × (result.end ≤ r.end + line_most) }
 {
-    let end = listing::put_line(table, out, r.end, r.number, answer, d);
+    let end = listing::put_line(out, r.end, r.number, answer, d);
     Run {
         state,
         number: r.number + 1,
@@ -151,30 +143,21 @@ fn one(
     rows: &mut [u32],
     entries: &mut [u32],
     heads: &mut [u32],
-    table: &[u8; decimal::PAIRS],
     out: &mut [u8],
 ) -> Run
-    requires { (table.now ≡ pair_table) × (r.end + line_most ≤ length out.old) × (r.number + 1 < 2 ^ 64) }
+    requires { (r.end + line_most ≤ length out.old) × (r.number + 1 < 2 ^ 64) }
     ensures { ((result, (lent memory.new rows.new entries.new heads.new, out.new))
         ≡ put_at out.old r.end (with_record s (operation_of bytes.now) (listed_from r (lent memory.old rows.old entries.old heads.old))))
         × (result.end ≤ r.end + line_most) }
 {
     let state = r.state;
     let OperationRecord::Good(op) = records::read_operation(bytes) else {
-        return print(
-            r,
-            state,
-            answers::BAD_RECORD,
-            Delivery::None,
-            false,
-            table,
-            out,
-        );
+        return print(r, state, answers::BAD_RECORD, Delivery::None, false, out);
     };
     let cycled = controller::cycle(s, state, op, memory, rows, entries, heads);
     let reply = cycled.reply;
     let delivery = reply.delivery;
-    print(r, cycled.state, reply.answer, delivery, true, table, out)
+    print(r, cycled.state, reply.answer, delivery, true, out)
 }
 
 // The lesser of two numbers.
@@ -193,10 +176,9 @@ pub fn part(
     rows: &mut [u32],
     entries: &mut [u32],
     heads: &mut [u32],
-    table: &[u8; decimal::PAIRS],
     out: &mut [u8],
 ) -> Run
-    requires { (table.now ≡ pair_table) × (line_most * records_in (length input.now) ≤ length out.old)
+    requires { (line_most * records_in (length input.now) ≤ length out.old)
         × (run.number + records_in (length input.now) < 2 ^ 64) }
     ensures { ((result, (lent memory.new rows.new entries.new heads.new, out.new))
         ≡ put_at out.old 0 (listed s input.now (listed_from run (lent memory.old rows.old entries.old heads.old))))
@@ -214,17 +196,7 @@ pub fn part(
     while i < count && r.on {
         let from = records::OPERATION_BYTES * i;
         let to = least(from + records::OPERATION_BYTES, input.len());
-        r = one(
-            s,
-            r,
-            &input[from..to],
-            memory,
-            rows,
-            entries,
-            heads,
-            table,
-            out,
-        );
+        r = one(s, r, &input[from..to], memory, rows, entries, heads, out);
         i += 1;
     }
     r

@@ -10,4 +10,4 @@ file-opened : (file : List ℕ) (s : Setup) → Opens file s → Opened s
 file-opened file s h = opened file (opening_of file) s refl h
 
 pub cut-requires : goal.cut-requires
-cut-requires g c = (search (file-opened), refl, search rules, search rules, search rules)
+cut-requires g c = (search (file-opened), refl, search rules, search rules)
