@@ -105,23 +105,6 @@ pub enum Unasked {
     BadMark,
 }
 
-// A setup of zeros.
-fn no_setup() -> Setup
-    ensures { result ≡ no_setup }
-{
-    Setup {
-        mode: 0,
-        a: 0,
-        s: 0,
-        m: 0,
-        k: 0,
-        delta: 0,
-        c: 0,
-        u: 0,
-        v: 0,
-    }
-}
-
 // A checked setup, or refusal 1.
 pub fn checked_out(checked: Result<Setup, Refusal>) -> Checked
     ensures { result ≡ checked_out checked }
@@ -133,7 +116,7 @@ pub fn checked_out(checked: Result<Setup, Refusal>) -> Checked
         },
         Err(r) => Checked {
             answer: r.number(),
-            setup: no_setup(),
+            setup: Setup::default(),
         },
     }
 }

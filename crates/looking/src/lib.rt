@@ -44,10 +44,10 @@ fn merge_read(s: Setup, position: u32, a: Address, rows: &[u32]) -> Plan
     requires { Ranges s × (length rows.now ≡ (lengths_of s).rows) × (position < s.c) }
     ensures { result ≡ merged_plan s position a (newest_live s position a rows.now) rows.now }
 {
-    match lookup::newest_live(rows, s.c as usize, position as usize, a) {
-        Some(i) => plan::plan_merged(a, table::row_at(rows, s.c as usize, i)),
-        None => plan::plan_read(s, position, a),
-    }
+    let Some(i) = lookup::newest_live(rows, s.c as usize, position as usize, a) else {
+        return plan::plan_read(s, position, a);
+    };
+    plan::plan_merged(a, table::row_at(rows, s.c as usize, i))
 }
 
 // What the operation is to do.

@@ -4,8 +4,8 @@
 use map::{Address, Cell};
 use port::Reply;
 
-// The state goes in and comes back by value; everything else is lent.
-#[derive(Clone, Copy)]
+// The state goes in and comes back by value; everything else is lent. By default, that of the first cycle after a fresh start.
+#[derive(Clone, Copy, Default)]
 pub struct State {
     // The cycle number modulo 2^32.
     pub stamp: u32,

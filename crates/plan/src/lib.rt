@@ -183,7 +183,7 @@ fn next_state(s: Setup, t: State) -> State
     ensures { result ≡ next_state s t }
 {
     State {
-        stamp: std::num::wrapping_add_u32(t.stamp, 1),
+        stamp: t.stamp.wrapping_add(1),
         turn: rings::next(s.m as usize, t.turn as usize) as u32,
         position: rings::next(s.c as usize, t.position as usize) as u32,
         stopped: t.stopped,
@@ -194,12 +194,7 @@ fn next_state(s: Setup, t: State) -> State
 fn stopped_state(t: State) -> State
     ensures { result ≡ stopped_state t }
 {
-    State {
-        stamp: t.stamp,
-        turn: t.turn,
-        position: t.position,
-        stopped: true,
-    }
+    State { stopped: true, ..t }
 }
 
 // The answer of a cycle that passes.

@@ -137,12 +137,7 @@ pub fn refuse(refusal: Refusal, t: State) -> Cycled
 pub fn first_state() -> State
     ensures { result ≡ fresh_state }
 {
-    State {
-        stamp: 0,
-        turn: 0,
-        position: 0,
-        stopped: false,
-    }
+    State::default()
 }
 
 // What a question of one bank tells once 1, 2 and 3 are past.

@@ -8,7 +8,7 @@ use answers::Refusal;
 use map::Map;
 
 #[repr(C)]
-#[derive(Clone, Copy)]
+#[derive(Clone, Copy, Default)]
 pub struct Setup {
     // 0 plain, 1 merging.
     pub mode: u8,
@@ -115,15 +115,9 @@ impl Setup {
     {
         let delta = or_default(self.delta, self.least_delta());
         Setup {
-            mode: self.mode,
-            a: self.a,
-            s: self.s,
-            m: self.m,
-            k: self.k,
             delta,
             c: or_default(self.c, delta),
-            u: self.u,
-            v: self.v,
+            ..self
         }
     }
 
