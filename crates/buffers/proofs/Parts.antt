@@ -1,24 +1,23 @@
 -- Four numbers at a place of a part of a room: read and put there as in the whole room. Assumes nothing.
-use Prim.Native.Nat.{ℕ, ◌+◌, ◌*◌, ◌≤◌, ◌<◌}
-use mathlib.Core.List.{List, [], ◌∷◌, ◌++◌}
-use mathlib.Core.Path.{◌≡◌, ap, sym, ◌∙◌}
-use native.Mathlib.Nat.{zero-add, suc-add}
+use Prim.Native.Nat.{ℕ, ◌+◌, ◌-◌, ◌*◌, ◌≤◌, ◌<◌}
+use mathlib.Core.List.{List, ◌++◌}
+use mathlib.Core.Path.{◌≡◌}
 use native.Mathlib.Omega.{arith}
 use lib.ListN.{length, take, set, length-take, length-drop, length-set}
 use lib.Seq.{get_or-take, get_or-drop, length-take-le, set-append_left}
 use borrow.Rule.Slice.PartMut.{mid_of, post_of, put_mid, put_same}
+use Rattle.std.proofs.lemmas.List.{set-append_right}
 use Rattle.rings.specs.Places.{four_at, put_four}
-
-set_append_right : (l r : List ℕ) (i v : ℕ) → set (l ++ r) (length l + i) v ≡ l ++ set r i v
-set_append_right [] r i v = rw zero-add
-set_append_right (x ∷ l) r i v = rw suc-add (ap (λ (t : List ℕ). x ∷ t) (set_append_right l r i v))
 
 -- a store in the part is a store in the whole, further on
 pub set_part : (a n : ℕ) (xs ys : List ℕ) (i v : ℕ) → a ≤ length xs → i < length ys → put_mid a n xs (set ys i v) ≡ set (put_mid a n xs ys) (a + i) v
 set_part a n xs ys i v ha hi =
-    sym (ap (λ (l : List ℕ). take a xs ++ l) (set-append_left ys (post_of a n xs) i v hi))
-    ∙ sym (set_append_right (take a xs) (ys ++ post_of a n xs) i v)
-    ∙ ap (λ (k : ℕ). set (put_mid a n xs ys) (k + i) v) (length-take-le a xs ha)
+    let e : a + i - a ≡ i = omega arith in
+    rw (
+      set-append_right (take a xs) (ys ++ post_of a n xs) a (a + i) v (length-take-le a xs ha) (omega arith),
+      e,
+      set-append_left ys (post_of a n xs) i v hi,
+    )
 
 -- the part is the n numbers from place p on, and j a place of it
 module _ (p n : ℕ) (xs : List ℕ) (j : ℕ) (within : 4 * j + 4 ≤ n) where

@@ -3,7 +3,6 @@
 
 ghost use Rattle.std.specs.Prelude.{◌≡◌, ◌+◌, ◌*◌, ◌^◌, ◌≤◌, ◌<◌, length, take};
 ghost use Rattle.model.specs.Lent.{lent};
-ghost use Rattle.decimal.specs.Decimal.{pair_table};
 ghost use Rattle.listing.specs.Listing.{line_most};
 ghost use Rattle.replay.specs.Replay.{records_in, listed, listed_from, put_at, zeros_for, whole_room, Opened};
 ghost use Rattle.cyclerun.specs.Parts.{IsPrefixLen, Opens, PrintsOnly, part_most, part_bytes, Reached, Adds, Ended};
@@ -69,11 +68,10 @@ fn run_part<I: Read, P: Print>(
     rows: &mut [u32],
     entries: &mut [u32],
     heads: &mut [u32],
-    table: &[u8; decimal::PAIRS],
     input: &mut [u8],
     out: &mut [u8],
 ) -> Part
-    requires { (table.now ≡ pair_table) × (line_most * records_in (length input.old) ≤ length out.old)
+    requires { (line_most * records_in (length input.old) ≤ length out.old)
         × (run.number + records_in (length input.old) < 2 ^ 64)
         × Reached s parts run (lent memory.old rows.old entries.old heads.old) }
     ensures { ((result.run, (lent memory.new rows.new entries.new heads.new, out.new))
@@ -81,17 +79,7 @@ fn run_part<I: Read, P: Print>(
         × (result.read ≤ length input.new) }
 {
     let n = read_full(operations, input);
-    let r = replay::part(
-        s,
-        run,
-        &input[..n],
-        memory,
-        rows,
-        entries,
-        heads,
-        table,
-        out,
-    );
+    let r = replay::part(s, run, &input[..n], memory, rows, entries, heads, out);
     let end = r.end;
     let written = hand_over(system, s, parts, &input[..n], &out[..end]);
     Part {
@@ -110,12 +98,11 @@ fn run_all<I: Read, P: Print>(
     rows: &mut [u32],
     entries: &mut [u32],
     heads: &mut [u32],
-    table: &[u8; decimal::PAIRS],
     input: &mut [u8],
     out: &mut [u8],
 ) -> Part
     requires { Opened s × (lent memory.old rows.old entries.old heads.old ≡ zeros_for s)
-        × (table.now ≡ pair_table) × (length input.old ≡ part_bytes)
+        × (length input.old ≡ part_bytes)
         × (line_most * part_most ≤ length out.old) }
     ensures { Ended s result.run result.read result.written (lent memory.new rows.new entries.new heads.new) input.new }
 {
@@ -123,7 +110,7 @@ fn run_all<I: Read, P: Print>(
     let mut parts: u64 = 0;
     loop {
         let part = run_part(
-            operations, system, s, parts, r, memory, rows, entries, heads, table, input, out,
+            operations, system, s, parts, r, memory, rows, entries, heads, input, out,
         );
         r = part.run;
         parts += 1;
@@ -143,12 +130,11 @@ fn cut<I: Read, P: Print>(
     rows: &mut [u32],
     entries: &mut [u32],
     heads: &mut [u32],
-    table: &[u8; decimal::PAIRS],
     input: &mut [u8],
     out: &mut [u8],
 )
     requires { Opened s × (lent memory.old rows.old entries.old heads.old ≡ whole_room)
-        × (table.now ≡ pair_table) × (length input.old ≡ part_bytes)
+        × (length input.old ≡ part_bytes)
         × (line_most * part_most ≤ length out.old) }
 {
     let words = s.words() as usize;
@@ -164,7 +150,6 @@ fn cut<I: Read, P: Print>(
         &mut rows[..row_numbers],
         &mut entries[..entry_numbers],
         &mut heads[..head_numbers],
-        table,
         input,
         out,
     );
@@ -180,7 +165,6 @@ fn start<S: Input + Print>(system: &S, file: &[u8], s: Setup)
     let mut heads = [0u32; replay::HEAD_NUMBERS];
     let mut input = [0u8; INPUT_BYTES];
     let mut out = [0u8; OUTPUT_BYTES];
-    let table = decimal::pairs();
     let mut operations = system.reader();
     cut(
         &mut operations,
@@ -190,7 +174,6 @@ fn start<S: Input + Print>(system: &S, file: &[u8], s: Setup)
         &mut rows,
         &mut entries,
         &mut heads,
-        &table,
         &mut input,
         &mut out,
     );

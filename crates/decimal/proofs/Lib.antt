@@ -1,3 +1,3 @@
 pub mod Stores
 pub mod Digits
-pub mod TwoDigits
+pub mod Texts

@@ -1,14 +1,12 @@
 -- The waiting entries: how the tests of a buffer and of all go on and end, and that a bank's part has what waits at the bank. Assumes nothing.
-use Prim.Native.Nat.{ℕ, zero, suc, ◌+◌, ◌*◌, ◌/◌, ◌≤◌, ◌<◌}
-use mathlib.Core.Bool.{Bool, true, false, not, ◌&&◌, ◌||◌}
+use Prim.Native.Nat.{ℕ, zero, suc, ◌+◌, ◌-◌, ◌*◌, ◌/◌, ◌≤◌, ◌<◌}
+use mathlib.Core.Bool.{Bool, true, false, ◌&&◌}
 use mathlib.Core.Logic.{⊎_elim}
 use mathlib.Core.List.{List}
 use mathlib.Core.Path.{◌≡◌, refl, sym, ap, ◌∙◌}
 use native.Mathlib.Omega.{arith}
-use lib.Dec.{eqb}
-use borrow.Author.Tests.{le-leb, lt-leb, lt-ltb, le-ltb}
 use borrow.Rule.Slice.PartMut.{mid_of}
-use Rattle.setup.specs.Setup.{Ranges, words_of, banks_of}
+use Rattle.setup.specs.Setup.{words_of, banks_of}
 use Rattle.setup.specs.declared.Setup.{Setup}
 use Rattle.rings.proofs.Rings.{onward_either, onward_none, onward-below, part_within}
 use Rattle.model.proofs.Range.{head_ok_lem, head_oldest, head_count, buffer_ok_lem, buffer_head, buffers_each}
@@ -23,13 +21,11 @@ use Rattle.model.specs.Range.{lengths_of, entry_ok, waiting_entry, entries_ok, b
 use Rattle.model.specs.declared.Entry.{Entry}
 use Rattle.flat.proofs.Below.{said_no, below_more, below_out, below_all}
 use lib.ListN.{length}
-use Rattle.setup.proofs.Ranges.{banks_least}
-use Rattle.buffers.specs.Bank.{Buffer}
+use Rattle.model.specs.declared.Head.{Head}
+use Rattle.buffers.specs.Bank.{part_start, Buffer}
 use Rattle.entries.specs.Entries.{part_ok}
-use Rattle.heads.specs.Heads.{Quiet, next_waiting}
-use Rattle.heads.proofs.Quiet.{found_quiet}
+use Rattle.heads.specs.Heads.{Quiet}
 use Rattle.buffers.proofs.Parts.{four_part}
-use Rattle.buffers.proofs.Banks.{size, room_buffer}
 
 ------------------------------------------------------------------------
 -- The entries of a part, from the oldest on. The place of entry i is at, and t says whether it is in range
@@ -75,30 +71,28 @@ module _ (s : Setup) (q : Buffers) (g : HeadsOk s q.heads) where
   waited : (b : ℕ) (t : Bool) → b < banks_of s → t ≡ entries_ok s q b (count_of q.heads b) → buffer_ok s q b ≡ t
   waited b t l e = rw (g b l, e)
 
-  buffers_more : (b k : ℕ) (t : Bool) → k ≡ banks_of s → buffers_ok s q b ≡ true → b < k → t ≡ entries_ok s q b (count_of q.heads b) → t ≡ true → buffers_ok s q (b + 1) ≡ true
-  unfolding buffers_ok
-  buffers_more b k t z h l e x = below_more (buffer_ok s q) (buffers_ok s q) (λ j. refl) b h (waited b t (omega arith) e ∙ x)
-
-  -- and the banks up to r, where nothing waits
   quiet : (b r : ℕ) → Quiet q.heads b r → r ≤ banks_of s → (i : ℕ) → b ≤ i → i < r → buffer_ok s q i ≡ true
   unfolding entries_ok
   quiet b r z l i h j = rw (g i (omega arith), z i h j)
 
-  buffers_quiet : (b r k : ℕ) → k ≡ banks_of s → buffers_ok s q b ≡ true → Quiet q.heads b r → r ≤ k → buffers_ok s q r ≡ true
-  buffers_quiet b r k e h z l =
-      range.buffers_all s q r (λ i j. ⊎_elim (λ x. buffers_each s q b h i x) (λ x. quiet b r z (omega arith) i x j) (below_or_not i b))
+  -- and the banks up to r, where nothing waits
+  buffers_quiet : (b r : ℕ) → buffers_ok s q b ≡ true → Quiet q.heads b r → r ≤ banks_of s → buffers_ok s q r ≡ true
+  buffers_quiet b r h z l =
+      range.buffers_all s q r (λ i j. ⊎_elim (λ x. buffers_each s q b h i x) (λ x. quiet b r z l i x j) (below_or_not i b))
 
-  pub buffers_first : (r k n : ℕ) → k ≡ banks_of s → r ≡ next_waiting q.heads 0 n → r ≤ k → buffers_ok s q r ≡ true
+  pub buffers_first : (r k : ℕ) → k ≡ banks_of s → Quiet q.heads 0 r → r ≤ k → buffers_ok s q r ≡ true
   unfolding buffers_ok
-  buffers_first r k n e z l = buffers_quiet 0 r k e refl (found_quiet q.heads 0 n r z) l
+  buffers_first r k e z l = buffers_quiet 0 r refl z (omega arith)
 
-  pub buffers_on : (b r k n : ℕ) (t : Bool) → k ≡ banks_of s → buffers_ok s q b ≡ true → b < k → t ≡ entries_ok s q b (count_of q.heads b) → t ≡ true
-      → r ≡ next_waiting q.heads (b + 1) n → r ≤ k → buffers_ok s q r ≡ true
-  buffers_on b r k n t e h l x y z m = buffers_quiet (b + 1) r k e (buffers_more b k t e h l x y) (found_quiet q.heads (b + 1) n r z) m
+  pub buffers_on : (b r k : ℕ) (t : Bool) → k ≡ banks_of s → buffers_ok s q b ≡ true → b < k → t ≡ entries_ok s q b (count_of q.heads b) → t ≡ true
+      → Quiet q.heads (b + 1) r → r ≤ k → buffers_ok s q r ≡ true
+  unfolding buffers_ok
+  buffers_on b r k t e h l n x z m =
+      buffers_quiet (b + 1) r (below_more (buffer_ok s q) (buffers_ok s q) (λ j. refl) b h (waited b t (omega arith) n ∙ x)) z (omega arith)
 
   pub buffers_out : (b k : ℕ) (t : Bool) → k ≡ banks_of s → b < k → t ≡ entries_ok s q b (count_of q.heads b) → t ≡ false → false ≡ buffers_ok s q (banks_of s)
   unfolding buffers_ok
-  buffers_out b k t z l e x = below_out (buffer_ok s q) (buffers_ok s q) (λ j. refl) b (banks_of s) (omega arith) (waited b t (omega arith) e ∙ x)
+  buffers_out b k t e l n x = below_out (buffer_ok s q) (buffers_ok s q) (λ j. refl) b (banks_of s) (omega arith) (waited b t (omega arith) n ∙ x)
 
 pub buffers_all : (s : Setup) (q : Buffers) (b k : ℕ) → k ≡ banks_of s → k ≤ b → b ≤ k → buffers_ok s q b ≡ true → true ≡ buffers_ok s q (banks_of s)
 unfolding buffers_ok
@@ -106,9 +100,6 @@ buffers_all s q b k e l h = below_all (buffer_ok s q) (buffers_ok s q) (λ j. re
 
 ------------------------------------------------------------------------
 -- What flat looks tell: of the heads, and of the whole entry room
-
-pub some_bank : (s : Setup) (banks : ℕ) → banks ≡ banks_of s → 0 < banks
-some_bank s banks e = rw e (banks_least s)
 
 module _ (s : Setup) (entries heads : List ℕ) (k banks : ℕ) (ek : k ≡ s.k) (eb : banks ≡ banks_of s) where
   -- a head is in range where its pair is
@@ -129,8 +120,8 @@ module _ (s : Setup) (entries heads : List ℕ) (k banks : ℕ) (ek : k ≡ s.k)
     told_below h = heads_each (k + 1) (omega arith) (sym (ap (λ (x : Look). x.below) e) ∙ h)
 
     -- one is not
-    pub told-out : r.below ≡ false → false ≡ buffers_ok s (buffers_in entries heads) (banks_of s)
-    told-out h = out (buffers_ok s (buffers_in entries heads) (banks_of s)) refl
+    pub told_out : r.below ≡ false → false ≡ buffers_ok s (buffers_in entries heads) (banks_of s)
+    told_out h = out (buffers_ok s (buffers_in entries heads) (banks_of s)) refl
       where
         out : (t : Bool) → buffers_ok s (buffers_in entries heads) (banks_of s) ≡ t → false ≡ t
         out false x = refl
@@ -175,42 +166,11 @@ module _ (s : Setup) (entries heads : List ℕ) (b m : ℕ) (wide : entry_number
       (ap (λ (e : Entry). entries_ok s (buffers_in entries heads) b i && entry_ok (words_of s) s.c e) (four_part (b * s.k) m entries j (omega arith) entry_with))
 
 ------------------------------------------------------------------------
--- One entry: its kind, its cell and its row, in the order of the code
+-- A bank's buffer: head is the bank's, its part is cut out from start up to end, and t is what the test of the waiting entries in the part answered
 
-or_true : (x : Bool) → true ≡ x || true
-or_true true = refl
-or_true false = refl
-
-or_false : (x : Bool) → x ≡ x || false
-or_false true = refl
-or_false false = refl
-
-module _ (n c : ℕ) (e : Entry) where
-  pub entry_kind : 1 < e.kind → false ≡ entry_ok n c e
-  entry_kind h = rw (lt-leb e.kind 1 h)
-
-  module _ (h : e.kind ≤ 1) where
-    pub entry_cell : n ≤ e.cell.0 → false ≡ entry_ok n c e
-    entry_cell l = rw (le-leb e.kind 1 h, le-ltb e.cell.0 n l)
-
-    module _ (l : e.cell.0 < n) where
-      pub entry_row : e.row < c → true ≡ entry_ok n c e
-      entry_row r = rw (le-leb e.kind 1 h, lt-ltb e.cell.0 n l, lt-ltb e.row c r) (or_true (not (eqb e.kind 0)))
-
-      pub entry_write : (t : Bool) → c ≤ e.row → t ≡ not (eqb e.kind 0) → t ≡ entry_ok n c e
-      entry_write t r q = rw (le-leb e.kind 1 h, lt-ltb e.cell.0 n l, le-ltb e.row c r) (q ∙ or_false (not (eqb e.kind 0)))
-
-------------------------------------------------------------------------
--- A bank's buffer
-
--- where every head is in range
-pub heads_buffer : (s : Setup) (entries heads : List ℕ) (b banks : ℕ) → Ranges s → Room s (buffers_in entries heads) → HeadsOk s heads → banks ≡ banks_of s → b < banks → Buffer s b (buffers_in entries heads)
-heads_buffer s entries heads b banks r room g e l = room_buffer s entries heads r.sizes room b (omega arith) (g b (omega arith))
-
--- oldest is the oldest place of bank b's head, and t what the test of the waiting entries in its part answered
-pub waiting_left : (s : Setup) (b : ℕ) (entries heads : List ℕ) → Buffer s b (buffers_in entries heads) → (oldest : ℕ) → oldest ≡ oldest_of heads b
-    → (count words : ℕ) (t : Bool) → count ≡ count_of heads b → words ≡ words_of s
-    → t ≡ part_ok words s.c s.k oldest (mid_of (entry_numbers * (b * s.k)) (size b s.k) entries) count
+pub waiting_left : (s : Setup) (b : ℕ) (entries heads : List ℕ) → Buffer s b (buffers_in entries heads) → (head : Head) → head.oldest ≡ oldest_of heads b → head.count ≡ count_of heads b
+    → (start end words : ℕ) (t : Bool) → start ≡ part_start s b → end ≡ part_start s b + entry_numbers * s.k → words ≡ words_of s
+    → t ≡ part_ok words s.c s.k head.oldest (mid_of start (end - start) entries) head.count
     → t ≡ entries_ok s (buffers_in entries heads) b (count_of heads b)
-waiting_left s b entries heads asked oldest o count words t n w r =
-    r ∙ rw (o, n, w) (part_entries s entries heads b (size b s.k) (omega arith) asked.head.oldest_below (count_of heads b) asked.head.count_most)
+waiting_left s b entries heads asked head o n start end words t es ee w r =
+    r ∙ rw (o, n, w, es, ee) (part_entries s entries heads b (part_start s b + entry_numbers * s.k - part_start s b) (omega arith) asked.head.oldest_below (count_of heads b) asked.head.count_most)

@@ -8,8 +8,9 @@ ghost use Rattle.model.specs.Range.{entry_ok, entries_ok, buffers_ok, Room, Head
 ghost use Rattle.buffers.specs.Bank.{Buffer};
 ghost use Rattle.entries.specs.Entries.{part_ok};
 
-use heads::{count_at, next_waiting, oldest_at};
-use model::Entry;
+use buffers::part;
+use heads::{count_at, head_at, next_waiting};
+use model::{Entry, Head};
 use rings::next;
 use setup::Setup;
 
@@ -20,93 +21,83 @@ fn entry_ok(part: &[u32], i: usize, n: u32, c: u32) -> bool
 {
     let at = Entry::NUMBERS * i;
     let kind = part[at];
-    if Entry::WRITE < kind {
-        return false;
-    }
-    if n <= part[at + Entry::CELL] {
-        return false;
-    }
-    if part[at + Entry::ROW] < c {
-        return true;
-    }
-    kind != Entry::READ
+    kind <= Entry::WRITE
+        && part[at + Entry::CELL] < n
+        && (part[at + Entry::ROW] < c || kind != Entry::READ)
 }
 
-// The `count` waiting entries, from the oldest on.
-fn part_ok(part: &[u32], k: usize, oldest: u32, count: u32, n: u32, c: u32) -> bool
-    requires { (length part.now ≡ entry_numbers * k) × (oldest < k) × (count ≤ k) × (k ≤ 128) }
-    ensures { result ≡ part_ok n c k oldest part.now count }
+// The waiting entries of a buffer of k places, from the oldest on.
+#[tactic(auto, using(crate::proofs::Waiting::at_first, crate::proofs::Waiting::at_next, crate::proofs::Waiting::part_more, crate::proofs::Waiting::part_out, crate::proofs::Waiting::part_all), unfolding(crate::specs::Entries::part_ok))]
+fn part_ok(part: &[u32], k: usize, head: Head, n: u32, c: u32) -> bool
+    requires { (length part.now ≡ entry_numbers * k) × (head.oldest < k) × (head.count ≤ k) × (k ≤ 128) }
+    ensures { result ≡ part_ok n c k head.oldest part.now head.count }
 {
-    let mut at = oldest as usize;
-    let mut i: u32 = 0;
-    while i < count {
-        if entry_ok(part, at, n, c) {
-            at = next(k, at);
-            i += 1;
-        } else {
+    let mut at = head.oldest as usize;
+    for _ in 0..head.count {
+        if !entry_ok(part, at, n, c) {
             return false;
         }
+        at = next(k, at);
     }
     true
 }
 
 // The entries that wait at bank b, whose head is in range; of n words.
+#[tactic(auto, using(crate::proofs::Waiting::waiting_left))]
 fn waiting_ok(s: Setup, n: u32, b: usize, entries: &[u32], heads: &[u32]) -> bool
     requires { Buffer s b (buffers_in entries.now heads.now) × (n ≡ words_of s) }
     ensures { result
         ≡ entries_ok s (buffers_in entries.now heads.now) b (count_of heads.now b) }
 {
-    let k = s.k as usize;
-    let from = Entry::NUMBERS * (b * k); // the part to look through
-    let to = from + Entry::NUMBERS * k;
-    let oldest = oldest_at(heads, b);
-    let count = count_at(heads, b);
-    part_ok(&entries[from..to], k, oldest, count, n, s.c as u32)
+    let head = head_at(heads, b);
+    part_ok(&entries[part(s, b)], s.k as usize, head, n, s.c as u32)
 }
 
-// Of each of the B buffers, whose heads are in range, the entries that wait; of n words.
-fn each_ok(s: Setup, n: u32, banks: usize, entries: &[u32], heads: &[u32]) -> bool
-    requires { Ranges s × Room s (buffers_in entries.now heads.now) × HeadsOk s heads.now × (n ≡ words_of s)
-        × (banks ≡ banks_of s) }
+// Of each buffer, whose heads are in range, the entries that wait; of n words.
+fn each_ok(s: Setup, n: u32, entries: &[u32], heads: &[u32]) -> bool
+    requires { Ranges s × Room s (buffers_in entries.now heads.now) × HeadsOk s heads.now × (n ≡ words_of s) }
     ensures { result ≡ buffers_ok s (buffers_in entries.now heads.now) (banks_of s) }
 {
+    let banks = s.banks() as usize;
     let mut b = next_waiting(heads, 0, banks);
     while b < banks {
-        if waiting_ok(s, n, b, entries, heads) {
-            b = next_waiting(heads, b + 1, banks);
-        } else {
+        if !waiting_ok(s, n, b, entries, heads) {
             return false;
         }
+        b = next_waiting(heads, b + 1, banks);
     }
     true
 }
 
 // Whether more than half the places of the first and of the last bank wait: in most runs most places then do.
-fn crowded(s: Setup, banks: usize, heads: &[u32]) -> bool
-    requires { (length heads.now ≡ head_numbers * banks) × (0 < banks) }
+fn crowded(s: Setup, heads: &[u32]) -> bool
+    requires { Ranges s × (length heads.now ≡ head_numbers * banks_of s) }
     ensures { result
-        ≡ ltb (s.k / 2) (count_of heads.now 0) && ltb (s.k / 2) (count_of heads.now (banks - 1)) }
+        ≡ ltb (s.k / 2) (count_of heads.now 0)
+        && ltb (s.k / 2) (count_of heads.now (banks_of s - 1)) }
 {
     let half = (s.k as u32) / 2;
-    (half < count_at(heads, 0)) & (half < count_at(heads, banks - 1))
+    let last = s.banks() as usize - 1;
+    (half < count_at(heads, 0)) & (half < count_at(heads, last))
 }
 
 // The same: where many wait, yes at once if every place of the entry room is in range as it stands, whether it waits or not.
-fn all_ok(s: Setup, n: u32, banks: usize, entries: &[u32], heads: &[u32]) -> bool
-    requires { Ranges s × Room s (buffers_in entries.now heads.now) × HeadsOk s heads.now × (n ≡ words_of s)
-        × (banks ≡ banks_of s) }
+#[tactic(auto, using(crate::proofs::Waiting::all_plain))]
+fn all_ok(s: Setup, n: u32, entries: &[u32], heads: &[u32]) -> bool
+    requires { Ranges s × Room s (buffers_in entries.now heads.now) × HeadsOk s heads.now × (n ≡ words_of s) }
     ensures { result ≡ buffers_ok s (buffers_in entries.now heads.now) (banks_of s) }
 {
-    if crowded(s, banks, heads) {
+    if crowded(s, heads) {
         let places = entries.len() / Entry::NUMBERS;
         if lanes::fours_below(entries, places, Entry::WRITE + 1, s.c as u32, n) {
             return true;
         }
     }
-    each_ok(s, n, banks, entries, heads)
+    each_ok(s, n, entries, heads)
 }
 
 // Each of the B buffers, of n words: the heads all at once, oldest places below K and counts at most K, then what waits, if anything does.
+#[tactic(auto, using(crate::proofs::Waiting::told_none, crate::proofs::Waiting::told_below, crate::proofs::Waiting::told_out))]
 pub fn buffers_ok(s: Setup, n: u32, entries: &[u32], heads: &[u32]) -> bool
     requires { Ranges s × Room s (buffers_in entries.now heads.now) × (n ≡ words_of s) }
     ensures { result ≡ buffers_ok s (buffers_in entries.now heads.now) (banks_of s) }
@@ -118,7 +109,7 @@ pub fn buffers_ok(s: Setup, n: u32, entries: &[u32], heads: &[u32]) -> bool
         return true;
     }
     if told.below {
-        return all_ok(s, n, banks, entries, heads);
+        return all_ok(s, n, entries, heads);
     }
     false
 }

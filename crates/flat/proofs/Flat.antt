@@ -3,27 +3,24 @@ use Prim.Native.Nat.{ℕ, zero, suc, ◌+◌, ◌-◌, ◌≤◌, ◌<◌}
 use native.Mathlib.Nat.{le_trans, not-suc-le-zero, le_of_suc-le-suc, eq-zero-or-pos}
 use native.Mathlib.Numerals.{add-one}
 use native.Mathlib.Omega.{arith}
-use mathlib.Core.Path.{◌≡◌, refl, sym, ap, subst}
+use mathlib.Core.Path.{◌≡◌, refl, sym, ap, subst, ◌∙◌}
 use mathlib.Core.Bool.{Bool, true, false, ◌&&◌}
 use mathlib.Core.Logic.{⊎_elim}
 use mathlib.Core.List.{List, [], ◌∷◌, ◌++◌}
-use lib.Bits.{bit_or, or_add_and, and_le_l, and_le_r}
+use lib.Bits.{bit_or}
 use lib.Dec.{ltb, eqb}
 use lib.ListN.{get_or, length, take}
 use lib.Seq.{take-suc, take_all}
+use mir.Val.{bool_byte}
 use borrow.Author.Count.{below_more}
+use Rattle.std.specs.List.{fold}
+use Rattle.std.proofs.lemmas.Nat.{le_or_l, le_or_r}
 use borrow.Author.Tests.{lt-ltb, ltb-true, eq-eqb}
 use Rattle.flat.specs.Flat.{one_if, times, all_below, UpTo}
 use Rattle.flat.proofs.Below.{and_yes, and_end}
 
 ------------------------------------------------------------------------
 -- Numbers put together by or
-
-pub le_or_l : (a b : ℕ) → a ≤ bit_or a b
-le_or_l a b = let e = or_add_and a b in let l = and_le_r a b in omega arith
-
-pub le_or_r : (a b : ℕ) → b ≤ bit_or a b
-le_or_r a b = let e = or_add_and a b in let l = and_le_l a b in omega arith
 
 -- n numbers of f, with one more and with m more
 module _ (f : ℕ → ℕ) (r n : ℕ) (u : (k : ℕ) → k < n → f k ≤ r) where
@@ -61,6 +58,10 @@ times_end : (x y : ℕ) (l : List ℕ) → times x (l ++ (y ∷ [])) ≡ times x
 unfolding times
 times_end x y [] = omega arith
 times_end x y (z ∷ l) = rw (times_end x y l) (omega arith)
+
+pub byte_most : (b : Bool) → bool_byte b ≤ 1
+byte_most true = omega arith
+byte_most false = omega arith
 
 module _ (x : ℕ) (l : List ℕ) where
   pub times_none : 0 ≡ times x (take 0 l)
@@ -111,26 +112,15 @@ upto_below r bound (x ∷ l) u h =
     let f : 0 + k ≡ k = omega arith in
     subst (λ (z : ℕ). get_or l z 0 ≤ r) (sym f) (subst (λ (z : ℕ). get_or (x ∷ l) z 0 ≤ r) e (u (suc k) (omega arith)))) h)
 
-and_in : (a b c : Bool) → a && (b && c) ≡ (a && b) && c
+pub and_in : (a b c : Bool) → a && (b && c) ≡ (a && b) && c
 and_in true b c = refl
 and_in false b c = refl
 
-below_end : (bound x : ℕ) (l : List ℕ) → all_below bound (l ++ (x ∷ [])) ≡ all_below bound l && ltb x bound
+-- one after the other
+pub below_fold : (bound : ℕ) (ok : Bool) (l : List ℕ) → fold (λ b x. b && ltb x bound) ok l ≡ ok && all_below bound l
 unfolding all_below
-below_end bound x [] = and_end true (ltb x bound)
-below_end bound x (y ∷ l) = rw (below_end bound x l) (and_in (ltb y bound) (all_below bound l) (ltb x bound))
-
--- the first i are looked at, and y says what they gave
-module _ (bound : ℕ) (l : List ℕ) where
-  pub each_none : true ≡ all_below bound (take 0 l)
-  unfolding all_below
-  each_none = refl
-
-  pub each_next : (i : ℕ) (y : Bool) → i < length l → y ≡ all_below bound (take i l) → y && ltb (get_or l i 0) bound ≡ all_below bound (take (i + 1) l)
-  each_next i y h e = rw (add-one, take-suc l i 0 h, below_end bound (get_or l i 0) (take i l), e)
-
-  pub each_all : (i : ℕ) (y : Bool) → length l ≤ i → y ≡ all_below bound (take i l) → y ≡ all_below bound l
-  each_all i y h e = rw (take_all i l h) at e
+below_fold bound ok [] = sym (and_end true ok)
+below_fold bound ok (x ∷ l) = below_fold bound (ok && ltb x bound) l ∙ sym (and_in ok (ltb x bound) (all_below bound l))
 
 -- where all are below, the number at k is
 pub below_at : (bound : ℕ) (l : List ℕ) → all_below bound l ≡ true → (k : ℕ) → k < length l → get_or l k 0 < bound

@@ -5,10 +5,6 @@ use Rattle.std.specs.Prelude.{ℕ, ◌+◌, ◌≤◌, ◌<◌, Bool, true, fals
 abbrev pub block : ℕ
 block = 64
 
--- and of a long part
-abbrev pub wide : ℕ
-wide = 256
-
 -- how many of the numbers are x
 abbrev pub one_if : Bool → ℕ
 one_if true = 1

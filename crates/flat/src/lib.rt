@@ -2,7 +2,7 @@
 #![tactic(auto)]
 
 ghost use Rattle.std.specs.Prelude.{◌≡◌, ◌+◌, ◌-◌, ◌≤◌, ◌<◌, length};
-ghost use Rattle.flat.specs.Flat.{block, wide, one_if, times, all_below, UpTo};
+ghost use Rattle.flat.specs.Flat.{block, times, all_below, UpTo};
 
 // How many numbers one look takes in.
 pub const BLOCK: usize = 64;
@@ -14,10 +14,7 @@ const WIDE: usize = 256;
 pub fn block_of(to: usize) -> usize
     ensures { result ≡ to - block }
 {
-    if to < BLOCK {
-        return 0;
-    }
-    to - BLOCK
+    to.saturating_sub(BLOCK)
 }
 
 // How many of the numbers of a block are x.
@@ -25,20 +22,11 @@ pub fn times(part: &[u32], x: u32) -> u32
     requires { length part.now ≡ block }
     ensures { result ≡ times x part.now }
 {
-    let mut n: u32 = 0;
-    let mut j = 0;
-    while j < BLOCK {
-        n = n + one_if(part[j] == x);
-        j = j + 1;
+    let mut n = 0;
+    for y in part {
+        n += u32::from(*y == x);
     }
     n
-}
-
-// 1 for a yes, 0 for a no.
-fn one_if(yes: bool) -> u32
-    ensures { (result ≡ one_if yes) × (result ≤ 1) }
-{
-    if yes { 1 } else { 0 }
 }
 
 // ---- Every number below a bound
@@ -48,38 +36,19 @@ pub fn steps_end(n: usize, w: usize) -> usize
     requires { 0 < w }
     ensures { result ≡ n + 1 - w }
 {
-    if n < w {
-        return 0;
-    }
-    n - (w - 1)
+    n.saturating_sub(w - 1)
 }
 
-// At least each number of a block from a place on: their bits put together. The last steps of a part are by blocks.
+// At least each of N numbers from a place on: their bits put together. N is BLOCK, or WIDE in a long part, which spares a sixth
+// of its instructions; the last steps of a part are by blocks.
 #[tactic(auto, using(crate::proofs::Flat::upto_one))]
-fn block_together(part: &[u32], at: usize) -> u32
-    requires { at + block ≤ length part.now }
-    ensures { UpTo result part.now at block }
+fn together<const N: usize>(part: &[u32], at: usize) -> u32
+    requires { at + N ≤ length part.now }
+    ensures { UpTo result part.now at N }
 {
-    let mut o: u32 = 0;
-    let mut j = 0;
-    while j < BLOCK {
-        o = o | part[at + j];
-        j = j + 1;
-    }
-    o
-}
-
-// The same for four blocks at a time: it spares a sixth of the instructions of a long part.
-#[tactic(auto, using(crate::proofs::Flat::upto_one))]
-fn wide_together(part: &[u32], at: usize) -> u32
-    requires { at + wide ≤ length part.now }
-    ensures { UpTo result part.now at wide }
-{
-    let mut o: u32 = 0;
-    let mut j = 0;
-    while j < WIDE {
-        o = o | part[at + j];
-        j = j + 1;
+    let mut o = 0;
+    for j in 0..N {
+        o |= part[at + j];
     }
     o
 }
@@ -94,41 +63,31 @@ fn all_together(part: &[u32]) -> u32
     let mut i = 0;
     let wide_end = steps_end(n, WIDE);
     while i < wide_end {
-        o = o | wide_together(part, i);
-        i = i + WIDE;
+        o |= together::<WIDE>(part, i);
+        i += WIDE;
     }
     let end = steps_end(n, BLOCK);
     while i < end {
-        o = o | block_together(part, i);
-        i = i + BLOCK;
+        o |= together::<BLOCK>(part, i);
+        i += BLOCK;
     }
     while i < n {
-        o = o | part[i];
-        i = i + 1;
+        o |= part[i];
+        i += 1;
     }
     o
 }
 
 // Each number by itself.
-#[tactic(auto, using(crate::proofs::Flat::each_next, crate::proofs::Flat::each_all))]
 fn each_below(part: &[u32], bound: u32) -> bool
     ensures { result ≡ all_below bound part.now }
 {
-    let mut ok = true;
-    let mut i = 0;
-    while i < part.len() {
-        ok = ok & (part[i] < bound);
-        i = i + 1;
-    }
-    ok
+    part.iter().fold(true, |ok, x| ok & (*x < bound))
 }
 
 // Whether every number is below the bound: at once where all of them put together are, as always under a power of two.
 pub fn all_below(part: &[u32], bound: u32) -> bool
     ensures { result ≡ all_below bound part.now }
 {
-    if all_together(part) < bound {
-        return true;
-    }
-    each_below(part, bound)
+    all_together(part) < bound || each_below(part, bound)
 }

@@ -1,4 +1,5 @@
 -- A state and an operation come back from their numbers as they were, and a refusal in numbers is the controller's. Assumes nothing.
+use Rattle.std.specs.Prelude.{Result, Ok, Err}
 use Prim.Native.Nat.{ℕ, zero, suc}
 use native.Mathlib.Omega.{arith}
 use mathlib.Core.Bool.{Bool, true, false}
@@ -10,11 +11,11 @@ use Rattle.port.specs.declared.Operation as port
 use Rattle.port.specs.declared.Operation.TheVariants.{Idle, Read, Write}
 use Rattle.model.specs.declared.State as kept
 use Rattle.model.specs.Calls as controller
-use Rattle.records.specs.declared.OperationRecord.{OperationRecord}
+use Rattle.answers.specs.declared.Refusal.{Refusal}
 use Rattle.records.specs.Records.{operation_from}
 use Rattle.forms.specs.declared.State.{State}
-use Rattle.forms.specs.declared.Asked.{Asked}
-use Rattle.forms.specs.Forms.{mark_ok, mark_out, state_in, state_out, cycled_out, refused_by, operation_in, asked_in, asked_of, operation_out}
+use Rattle.forms.specs.declared.Unasked.TheVariants.{BadMark}
+use Rattle.forms.specs.Forms.{mark_ok, mark_out, state_in, state_out, cycled_out, refused_by, operation_in, Asked, asked_in, asked_of, operation_out}
 
 ------------------------------------------------------------------------
 -- A state that the controller returned
@@ -48,18 +49,18 @@ state_there t h =
 ------------------------------------------------------------------------
 -- An operation and a refusal
 
-operation_back : (op : port.Operation) → operation_in (operation_out op) ≡ OperationRecord.Good op
+operation_back : (op : port.Operation) → operation_in (operation_out op) ≡ Ok op
 unfolding operation_from
 operation_back Idle = refl
 operation_back (Read a) = refl
 operation_back (Write a w) = refl
 
-pub asked-back : (t : kept.State) (op : port.Operation) → asked_of (state_out t) (operation_out op) ≡ Asked.Cycle t op
+pub asked-back : (t : kept.State) (op : port.Operation) → asked_of (state_out t) (operation_out op) ≡ Ok (t, op)
 unfolding asked_in
 asked-back t op =
-    ap (λ (r : OperationRecord). asked_in r (state_out t)) (operation_back op)
-    ∙ ap (λ (m : Bool). pick m (Asked.Cycle (state_in (state_out t)) op) Asked.BadMark) (mark_good t.stamp t.turn t.position t.stopped)
-    ∙ ap (λ (k : kept.State). Asked.Cycle k op) (state_back t)
+    ap (λ (r : Result port.Operation Refusal). asked_in r (state_out t)) (operation_back op)
+    ∙ ap (λ (m : Bool). pick {A = Asked} m (Ok (state_in (state_out t), op)) (Err BadMark)) (mark_good t.stamp t.turn t.position t.stopped)
+    ∙ ap {B = Asked} (λ (k : kept.State). Ok (k, op)) (state_back t)
 
 pub refused-out : (n : ℕ) (t : kept.State) → cycled_out (controller.refused_by n t) ≡ refused_by n (state_out t)
 refused-out n t = refl

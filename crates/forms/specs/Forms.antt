@@ -1,10 +1,10 @@
 -- What C passes and gets: numbers in place of the enums.
-use Rattle.std.specs.Prelude.{ℕ, Bool, leb, eqb}
-use Rattle.answers.specs.Answers.{done}
+use Rattle.std.specs.Prelude.{ℕ, Bool, leb, eqb, Result, Ok, Err}
+use Rattle.answers.specs.declared.Refusal.{Refusal}
+use Rattle.answers.specs.Answers.{done, bad_setup}
 use Rattle.choice.specs.Choice.{pick}
 use Rattle.setup.specs.Setup.{answer_of, setup_or}
 use Rattle.setup.specs.declared.Setup.{Setup}
-use Rattle.setup.specs.declared.Checked as setup
 use Rattle.port.specs.declared.Operation as port
 use Rattle.port.specs.declared.Operation.TheVariants.{Idle, Read, Write}
 use Rattle.port.specs.declared.Delivery.{Delivery}
@@ -14,8 +14,6 @@ use Rattle.model.specs.declared.Lengths.{Lengths}
 use Rattle.model.specs.declared.State as kept
 use Rattle.model.specs.declared.Cycled as cycling
 use Rattle.model.specs.declared.Started as starting
-use Rattle.records.specs.declared.OperationRecord.{OperationRecord}
-use Rattle.setuprecord.specs.declared.SetupRecord.{SetupRecord}
 use Rattle.records.specs.Records.{idle_record_kind, read_record_kind, write_record_kind, operation_from, operation_answer, operation_or}
 use Rattle.setuprecord.specs.SetupRecord.{record_answer, recorded_or}
 use Rattle.forms.specs.declared.Checked.{Checked}
@@ -27,7 +25,8 @@ use Rattle.forms.specs.declared.Reply.{Reply}
 use Rattle.forms.specs.declared.Cycled.{Cycled}
 use Rattle.forms.specs.declared.Told.{Told}
 use Rattle.forms.specs.declared.Recorded.{Recorded}
-use Rattle.forms.specs.declared.Asked.{Asked}
+use Rattle.forms.specs.declared.Unasked.{Unasked}
+use Rattle.forms.specs.declared.Unasked.TheVariants.{NoOperation, BadMark}
 
 ------------------------------------------------------------------------
 -- Setups
@@ -36,7 +35,7 @@ use Rattle.forms.specs.declared.Asked.{Asked}
 abbrev pub no_setup : Setup
 no_setup = record { mode = 0; a = 0; s = 0; m = 0; k = 0; delta = 0; c = 0; u = 0; v = 0 }
 
-abbrev pub checked_out : setup.Checked → Checked
+abbrev pub checked_out : Result Setup Refusal → Checked
 checked_out r = record { answer = answer_of r; setup = setup_or no_setup r }
 
 -- how many numbers each lent room has
@@ -46,7 +45,7 @@ lent_out due =
 
 -- a refused setup has no lengths
 abbrev pub no_lengths : Lent
-no_lengths = record { answer = answer_of setup.Checked.Refused; memory = 0; rows = 0; entries = 0; heads = 0 }
+no_lengths = record { answer = bad_setup; memory = 0; rows = 0; entries = 0; heads = 0 }
 
 ------------------------------------------------------------------------
 -- The state: the stop mark is a number, 0 or 1
@@ -102,7 +101,7 @@ told_out answer count = record { answer = answer; count = count }
 ------------------------------------------------------------------------
 -- An operation is the three numbers of its record, under the record's rule
 
-abbrev pub operation_in : Operation → OperationRecord
+abbrev pub operation_in : Operation → Result port.Operation Refusal
 operation_in op = operation_from op.kind op.address op.word
 
 abbrev pub numbers : ℕ → ℕ → ℕ → Operation
@@ -114,9 +113,12 @@ operation_out (Read a) = numbers read_record_kind a.0 0
 operation_out (Write a w) = numbers write_record_kind a.0 w
 
 -- what C asks of a cycle: an operation that is none comes first, then a mark out of range
-unfoldable pub asked_in : OperationRecord → State → Asked
-asked_in OperationRecord.Bad t = Asked.NoOperation
-asked_in (OperationRecord.Good op) t = pick (mark_ok t) (Asked.Cycle (state_in t) op) Asked.BadMark
+abbrev pub Asked : Type 0
+Asked = Result (kept.State × port.Operation) Unasked
+
+unfoldable pub asked_in : Result port.Operation Refusal → State → Asked
+asked_in (Err r) t = Err NoOperation
+asked_in (Ok op) t = pick (mark_ok t) (Ok (state_in t, op)) (Err BadMark)
 
 abbrev pub asked_of : State → Operation → Asked
 asked_of t op = asked_in (operation_in op) t
@@ -125,9 +127,9 @@ asked_of t op = asked_in (operation_in op) t
 -- What a record holds
 
 -- the setup as written
-abbrev pub setup_read : SetupRecord → Checked
+abbrev pub setup_read : Result Setup Refusal → Checked
 setup_read r = record { answer = record_answer r; setup = recorded_or no_setup r }
 
 -- a bad record is handed out as idle
-abbrev pub operation_read : OperationRecord → Recorded
+abbrev pub operation_read : Result port.Operation Refusal → Recorded
 operation_read r = record { answer = operation_answer r; operation = operation_out (operation_or Idle r) }

@@ -1,14 +1,12 @@
 -- What C gets, number by number, as docs/INTERFACE.md has it. proofs/Numbers.antt proves it.
-use Rattle.std.specs.Prelude.{ℕ, ◌≡◌, true, false}
+use Rattle.std.specs.Prelude.{ℕ, ◌≡◌, true, false, Ok, Err}
+use Rattle.answers.specs.declared.Refusal.TheVariants.{BadSetup, BadRecord}
 use Rattle.setup.specs.declared.Setup.{Setup}
-use Rattle.setup.specs.declared.Checked.TheVariants.{Good, Refused}
 use Rattle.setup.specs.Examples.{setup_with}
 use Rattle.map.specs.declared.Address.{Address}
 use Rattle.port.specs.declared.Operation.TheVariants.{Idle, Read, Write}
 use Rattle.port.specs.declared.Delivery.TheVariants.{None, Unready, Word}
 use Rattle.model.specs.declared.Lengths.{Lengths}
-use Rattle.records.specs.declared.OperationRecord.{OperationRecord}
-use Rattle.setuprecord.specs.declared.SetupRecord.{SetupRecord}
 use Rattle.forms.specs.Forms.{checked_out, lent_out, no_lengths, state_out, reply_out, setup_read, operation_read}
 
 -- a refused setup: its numbers
@@ -29,16 +27,16 @@ pub record InNumbers : Type 0 where
   pub stopped : (stamp turn position : ℕ)
       → state_out (record { stamp = stamp; turn = turn; position = position; stopped = true }) ≡ record { stamp = stamp; turn = turn; position = position; stopped = 1 }
   -- a setup that is checked or read, and its answer
-  pub checked : (s : Setup) → checked_out (Good s) ≡ record { answer = 0; setup = s }
-  pub refused : checked_out Refused ≡ record { answer = 1; setup = zero_setup }
-  pub setup-read : (s : Setup) → setup_read (SetupRecord.Good s) ≡ record { answer = 0; setup = s }
-  pub setup-refused : setup_read SetupRecord.Refused ≡ record { answer = 1; setup = zero_setup }
+  pub checked : (s : Setup) → checked_out (Ok s) ≡ record { answer = 0; setup = s }
+  pub refused : checked_out (Err BadSetup) ≡ record { answer = 1; setup = zero_setup }
+  pub setup-read : (s : Setup) → setup_read (Ok s) ≡ record { answer = 0; setup = s }
+  pub setup-refused : setup_read (Err BadSetup) ≡ record { answer = 1; setup = zero_setup }
   -- the lengths of the rooms
   pub lengths : (due : Lengths)
       → lent_out due ≡ record { answer = 0; memory = due.memory; rows = due.rows; entries = due.entries; heads = due.heads }
   pub no_lengths : no_lengths ≡ record { answer = 1; memory = 0; rows = 0; entries = 0; heads = 0 }
   -- an operation that is read
-  pub idle : operation_read (OperationRecord.Good Idle) ≡ record { answer = 0; operation = record { kind = 0; address = 0; word = 0 } }
-  pub read : (a : Address) → operation_read (OperationRecord.Good (Read a)) ≡ record { answer = 0; operation = record { kind = 1; address = a.0; word = 0 } }
-  pub write : (a : Address) (w : ℕ) → operation_read (OperationRecord.Good (Write a w)) ≡ record { answer = 0; operation = record { kind = 2; address = a.0; word = w } }
-  pub bad : operation_read OperationRecord.Bad ≡ record { answer = 9; operation = record { kind = 0; address = 0; word = 0 } }
+  pub idle : operation_read (Ok Idle) ≡ record { answer = 0; operation = record { kind = 0; address = 0; word = 0 } }
+  pub read : (a : Address) → operation_read (Ok (Read a)) ≡ record { answer = 0; operation = record { kind = 1; address = a.0; word = 0 } }
+  pub write : (a : Address) (w : ℕ) → operation_read (Ok (Write a w)) ≡ record { answer = 0; operation = record { kind = 2; address = a.0; word = w } }
+  pub bad : operation_read (Err BadRecord) ≡ record { answer = 9; operation = record { kind = 0; address = 0; word = 0 } }

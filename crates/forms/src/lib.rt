@@ -4,6 +4,7 @@
 ghost use Rattle.std.specs.Prelude.{◌≡◌};
 ghost use Rattle.forms.specs.Forms.{no_setup, checked_out, lent_out, no_lengths, mark_ok, state_in, mark_out, state_out, started_out, delivery_out, word_out, reply_out, cycled_out, refused_by, told_out, operation_in, asked_of, operation_out, setup_read, operation_read};
 
+use answers::Refusal;
 use setup::Setup;
 
 pub const DELIVERY_NONE: u32 = 0;
@@ -97,12 +98,11 @@ pub struct Recorded {
     pub operation: Operation,
 }
 
-// What C asks of a cycle: an operation that is none, a mark out of range, or a cycle of the controller.
-#[derive(Clone, Copy)]
-pub enum Asked {
+// Why what C asks is no cycle of the controller: an operation that is none, or a mark out of range.
+#[derive(Clone, Copy, Debug, PartialEq, Eq)]
+pub enum Unasked {
     NoOperation,
     BadMark,
-    Cycle(model::State, port::Operation),
 }
 
 // A setup of zeros.
@@ -123,16 +123,16 @@ fn no_setup() -> Setup
 }
 
 // A checked setup, or refusal 1.
-pub fn checked_out(checked: setup::Checked) -> Checked
+pub fn checked_out(checked: Result<Setup, Refusal>) -> Checked
     ensures { result ≡ checked_out checked }
 {
     match checked {
-        setup::Checked::Good(s) => Checked {
+        Ok(s) => Checked {
             answer: answers::DONE,
             setup: s,
         },
-        setup::Checked::Refused => Checked {
-            answer: answers::BAD_SETUP,
+        Err(r) => Checked {
+            answer: r.number(),
             setup: no_setup(),
         },
     }
@@ -156,7 +156,7 @@ pub fn no_lengths() -> Lent
     ensures { result ≡ no_lengths }
 {
     Lent {
-        answer: answers::BAD_SETUP,
+        answer: Refusal::BadSetup.number(),
         memory: 0,
         rows: 0,
         entries: 0,
@@ -203,6 +203,7 @@ pub fn state_out(t: model::State) -> State
 }
 
 // A refused start gives the state back as C passed it, whatever its mark is.
+#[tactic(auto, unfolding(crate::specs::Forms::started_out))]
 pub fn started_out(t: State, started: model::Started) -> Started
     ensures { result ≡ started_out t started }
 {
@@ -287,23 +288,24 @@ pub fn told_out(w: model::Waiting) -> Told
 }
 
 // The operation that the three numbers mean, by the rule of its record.
-pub fn operation_in(op: Operation) -> records::OperationRecord
+pub fn operation_in(op: Operation) -> Result<port::Operation, Refusal>
     ensures { result ≡ operation_in op }
 {
     records::operation_from(op.kind, op.address, op.word)
 }
 
 // What C asks of a cycle: the operation is looked at first, then the mark.
-pub fn cycle_asked(t: State, op: Operation) -> Asked
+#[tactic(auto, unfolding(crate::specs::Forms::asked_in))]
+pub fn cycle_asked(t: State, op: Operation) -> Result<(model::State, port::Operation), Unasked>
     ensures { result ≡ asked_of t op }
 {
-    let records::OperationRecord::Good(o) = operation_in(op) else {
-        return Asked::NoOperation;
+    let Ok(o) = operation_in(op) else {
+        return Err(Unasked::NoOperation);
     };
     if mark_ok(t) {
-        return Asked::Cycle(state_in(t), o);
+        return Ok((state_in(t), o));
     }
-    Asked::BadMark
+    Err(Unasked::BadMark)
 }
 
 // The three numbers of an operation.
@@ -330,26 +332,26 @@ fn operation_out(op: port::Operation) -> Operation
 }
 
 // What a setup record holds: the setup, or refusal 1.
-pub fn setup_read(held: setuprecord::SetupRecord) -> Checked
+pub fn setup_read(held: Result<Setup, Refusal>) -> Checked
     ensures { result ≡ setup_read held }
 {
     match held {
-        setuprecord::SetupRecord::Good(s) => checked_out(setup::Checked::Good(s)),
-        setuprecord::SetupRecord::Refused => checked_out(setup::Checked::Refused),
+        Ok(s) => checked_out(Ok(s)),
+        Err(r) => checked_out(Err(r)),
     }
 }
 
 // What an operation record holds: the operation, or idle and answer 9.
-pub fn operation_read(held: records::OperationRecord) -> Recorded
+pub fn operation_read(held: Result<port::Operation, Refusal>) -> Recorded
     ensures { result ≡ operation_read held }
 {
     match held {
-        records::OperationRecord::Good(op) => Recorded {
+        Ok(op) => Recorded {
             answer: answers::DONE,
             operation: operation_out(op),
         },
-        records::OperationRecord::Bad => Recorded {
-            answer: answers::BAD_RECORD,
+        Err(refusal) => Recorded {
+            answer: refusal.number(),
             operation: operation_out(port::Operation::Idle),
         },
     }

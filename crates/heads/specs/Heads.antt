@@ -1,6 +1,5 @@
 -- What a call on the head of one bank's buffer asks, and where something waits.
-use Rattle.std.specs.Prelude.{ℕ, zero, suc, ◌+◌, ◌*◌, ◌≤◌, ◌<◌, List, ◌≡◌, eqb, length}
-use Rattle.choice.specs.Choice.{pick}
+use Rattle.std.specs.Prelude.{ℕ, ◌+◌, ◌*◌, ◌≤◌, ◌<◌, List, ◌≡◌, ◌≢◌, length}
 use Rattle.setup.specs.declared.Setup.{Setup}
 use Rattle.setup.specs.Setup.{Sizes}
 use Rattle.model.specs.Lent.{head_numbers, oldest_of, count_of}
@@ -20,7 +19,6 @@ pub record GoodHead (s : Setup) (b : ℕ) (heads : List ℕ) : Type 0 where
 abbrev pub Quiet : List ℕ → ℕ → ℕ → Type 0
 Quiet heads from to = (b : ℕ) → from ≤ b → b < to → count_of heads b ≡ 0
 
--- the first of the n banks from b on where something waits, or the one after them
-unfoldable pub next_waiting : List ℕ → ℕ → ℕ → ℕ
-next_waiting heads b zero = b
-next_waiting heads b (suc n) = pick (eqb (count_of heads b) 0) (next_waiting heads (suc b) n) b
+-- r is the first of the banks from b on where something waits, or else their number
+abbrev pub FirstWaiting : List ℕ → ℕ → ℕ → ℕ → Type 0
+FirstWaiting heads b banks r = (b ≤ r) × (r ≤ banks) × Quiet heads b r × (r < banks → count_of heads r ≢ 0)

@@ -4,18 +4,22 @@
 ghost use Rattle.std.specs.Prelude.{◌≡◌, true, ◌+◌, ◌-◌, ◌*◌, ◌≤◌, ◌<◌, length};
 ghost use Rattle.model.specs.Lent.{head_numbers, oldest_of, count_of, put_head};
 ghost use Rattle.model.specs.Cycle.{popped};
-ghost use Rattle.heads.specs.Heads.{HeadThere, GoodHead, Quiet, next_waiting};
+ghost use Rattle.heads.specs.Heads.{HeadThere, GoodHead, Quiet, FirstWaiting};
 
 use model::Head;
-use rings::onward;
+use rings::next;
 use setup::Setup;
 
-// The place of bank b's oldest entry.
-pub fn oldest_at(heads: &[u32], b: usize) -> u32
+// Bank b's head.
+pub fn head_at(heads: &[u32], b: usize) -> Head
     requires { HeadThere b heads.now }
-    ensures { result ≡ oldest_of heads.now b }
+    ensures { (result.oldest ≡ oldest_of heads.now b) × (result.count ≡ count_of heads.now b) }
 {
-    heads[Head::NUMBERS * b]
+    let at = Head::NUMBERS * b;
+    Head {
+        oldest: heads[at],
+        count: heads[at + Head::COUNT],
+    }
 }
 
 // How many entries wait at bank b.
@@ -23,7 +27,7 @@ pub fn count_at(heads: &[u32], b: usize) -> u32
     requires { HeadThere b heads.now }
     ensures { result ≡ count_of heads.now b }
 {
-    heads[Head::NUMBERS * b + Head::COUNT]
+    head_at(heads, b).count
 }
 
 // Puts bank b's head.
@@ -41,9 +45,9 @@ pub fn pop(s: Setup, b: usize, heads: &mut [u32])
     requires { GoodHead s b heads.old × (0 < count_of heads.old b) }
     ensures { heads.new ≡ popped s b heads.old }
 {
-    let k = s.k as usize;
-    let oldest = onward(k, oldest_at(heads, b) as usize, 1) as u32;
-    let count = count_at(heads, b) - 1;
+    let head = head_at(heads, b);
+    let oldest = next(s.k as usize, head.oldest as usize) as u32;
+    let count = head.count - 1;
     put_head(heads, b, Head { oldest, count });
 }
 
@@ -59,22 +63,20 @@ fn four_quiet(heads: &[u32], b: usize) -> bool
 // The first bank from b on where something waits, or the number of banks: one by one.
 fn next_of_few(heads: &[u32], b: usize, banks: usize) -> usize
     requires { (length heads.now ≡ head_numbers * banks) × (b ≤ banks) }
-    ensures { (result ≡ next_waiting heads.now b (banks - b)) × (b ≤ result) × (result ≤ banks) }
+    ensures { FirstWaiting heads.now b banks result }
 {
-    let mut i = b;
-    while i < banks {
+    for i in b..banks {
         if count_at(heads, i) != 0 {
             return i;
         }
-        i += 1;
     }
-    i
+    banks
 }
 
 // The same by fours, as long as nothing waits there: at most banks nothing does as a rule.
 pub fn next_waiting(heads: &[u32], b: usize, banks: usize) -> usize
     requires { (length heads.now ≡ head_numbers * banks) × (b ≤ banks) }
-    ensures { (result ≡ next_waiting heads.now b (banks - b)) × (b ≤ result) × (result ≤ banks) }
+    ensures { FirstWaiting heads.now b banks result }
 {
     let mut i = b;
     while 4 <= banks - i {

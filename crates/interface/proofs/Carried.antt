@@ -1,14 +1,16 @@
 -- The numbers lose nothing, and a refusal changes nothing. Assumes nothing.
+use Rattle.std.specs.Prelude.{Result, Ok, Err}
 use Prim.Native.Nat.{ℕ}
 use mathlib.Core.Bool.{Bool, true, false, ◌&&◌}
 use mathlib.Core.Logic.{◌⊎◌, inl, inr}
 use mathlib.Core.Path.{◌≡◌, refl, sym, ap, subst, ◌∙◌}
 use mathlib.Core.List.{List}
 use lib.Dec.{ltb, eqb}
-use Rattle.answers.specs.Answers.{done, bad_setup, bad_length, bad_state, bad_address, stopped}
+use Rattle.answers.specs.declared.Refusal.{Refusal}
+use Rattle.answers.specs.declared.Refusal.TheVariants.{BadSetup, BadLength, BadState}
+use Rattle.answers.specs.Answers.{number, done, bad_setup, bad_length, bad_state, bad_address, stopped}
 use Rattle.choice.specs.Choice.{pick}
 use Rattle.setup.specs.declared.Setup.{Setup}
-use Rattle.setup.specs.declared.Checked as setup
 use Rattle.setup.specs.Setup.{with_defaults, in_range, checked_of, banks_of}
 use Rattle.port.specs.declared.Operation as port
 use Rattle.model.specs.declared.State as kept
@@ -23,12 +25,11 @@ use Rattle.model.specs.Refusals.{within}
 use Rattle.model.specs.Promises.{NotRefused}
 use Rattle.model.proofs.Signed.{refuses_whole}
 use Rattle.model.proofs.SignedRefusals.{starts_in_order, refuses_in_order, tells_in_order}
-use Rattle.records.specs.declared.OperationRecord.{OperationRecord}
-use Rattle.forms.specs.declared.Asked.{Asked}
+use Rattle.forms.specs.declared.Unasked.TheVariants.{BadMark}
 use Rattle.forms.specs.declared.State.{State}
 use Rattle.forms.specs.declared.Cycled.{Cycled}
 use Rattle.forms.specs.declared.Told.{Told}
-use Rattle.forms.specs.Forms.{no_lengths, mark_ok, state_in, state_out, started_out, operation_in, asked_in, refused_by, told_out}
+use Rattle.forms.specs.Forms.{no_lengths, mark_ok, state_in, state_out, started_out, operation_in, Asked, asked_in, refused_by, told_out}
 use Rattle.forms.proofs.Back.{mark_good, state_back, state_there, asked-back, refused-out}
 use Rattle.interface.specs.Interface.{lengths_in, start_with, cycled_with, bad_mark, cycle_in, waiting_out, written_in}
 use Rattle.interface.specs.Carried.{started_by, SameStart, SameCycle, SameQuestion, StartsC, in_order, CyclesC, AsksC, RefusesC, LengthsC, lengths_due, WritesC, written_for}
@@ -43,22 +44,22 @@ same-cycle s t op x = ap (λ (a : Asked). cycle_in a s (state_out t) x) (asked-b
 pub same-question : SameQuestion
 unfolding waiting_out
 same-question s t b x =
-    ap (λ (m : Bool). pick m (told_out (waiting_of s (state_in (state_out t)) b x).answer (waiting_of s (state_in (state_out t)) b x).count) (told_out (bad_mark (checked_of s) x) 0)) (mark_good t.stamp t.turn t.position t.stopped)
+    ap (λ (m : Bool). pick m (told_out (waiting_of s (state_in (state_out t)) b x).answer (waiting_of s (state_in (state_out t)) b x).count) (told_out (number (bad_mark (checked_of s) x)) 0)) (mark_good t.stamp t.turn t.position t.stopped)
     ∙ ap (λ (k : kept.State). told_out (waiting_of s k b x).answer (waiting_of s k b x).count) (state_back t)
 
 ------------------------------------------------------------------------
 -- Refusals
 
-lengths_by : (s : Setup) (g : Bool) → lengths_in (pick g (setup.Checked.Good s) setup.Checked.Refused) ≡ pick g (lengths_due s) no_lengths
+lengths_by : (s : Setup) (g : Bool) → lengths_in (pick g (Ok s) (Err BadSetup)) ≡ pick g (lengths_due s) no_lengths
 lengths_by s true = refl
 lengths_by s false = refl
 
 pub lengths_c : LengthsC
 lengths_c s = lengths_by (with_defaults s) (in_range (with_defaults s))
 
-written_by : (r : OperationRecord) (room : List ℕ) → written_in r room ≡ written_for r room
-written_by (OperationRecord.Good op) room = refl
-written_by OperationRecord.Bad room = refl
+written_by : (r : Result port.Operation Refusal) (room : List ℕ) → written_in r room ≡ written_for r room
+written_by (Ok op) room = refl
+written_by (Err r) room = refl
 
 pub writes-c : WritesC
 writes-c op room = written_by (operation_in op) room
@@ -120,13 +121,13 @@ cycle_by t x p h false l n m a = refused-back t x h bad_setup
 
 -- a bad mark: 1, 2 and then 3
 mark_by : (z : Setup) (x : room.Lent) (g : Bool)
-    → bad_mark (pick g (setup.Checked.Good z) setup.Checked.Refused) x ≡ pick g (pick (lengths_ok z x) bad_state bad_length) bad_setup
+    → bad_mark (pick g (Ok z) (Err BadSetup)) x ≡ pick g (pick (lengths_ok z x) BadState BadLength) BadSetup
 unfolding bad_mark
 mark_by z x true = refl
 mark_by z x false = refl
 
 refused_by_lem : (t : State) (x : room.Lent) (g l : Bool)
-    → ◌≡◌ {A = Cycled × room.Lent} (refused_by (pick g (pick l bad_state bad_length) bad_setup) t, x)
+    → ◌≡◌ {A = Cycled × room.Lent} (refused_by (number (pick g (pick l BadState BadLength) BadSetup)) t, x)
     (pick g (pick l (refused_by bad_state t, x) (refused_by bad_length t, x)) (refused_by bad_setup t, x))
 refused_by_lem t x true true = refl
 refused_by_lem t x true false = refl
@@ -137,7 +138,7 @@ unfolding cycle_in asked_in
 cycles_c s t op x = go (operation_in op)
   where
     marked : (o : port.Operation) (k : Bool) → mark_ok t ≡ k
-        → cycle_in (pick k (Asked.Cycle (state_in t) o) Asked.BadMark) s t x
+        → cycle_in (pick {A = Asked} k (Ok (state_in t, o)) (Err BadMark)) s t x
         ≡ pick (in_range (with_defaults s))
         (pick (lengths_ok (with_defaults s) x)
         (pick (k && numbers_ok (with_defaults s) (state_in t) x.rows x.buffers)
@@ -151,19 +152,19 @@ cycles_c s t op x = go (operation_in op)
         ∙ cycle_by t x (passed (with_defaults s) (state_in t) o x) h (in_range (with_defaults s)) (lengths_ok (with_defaults s) x)
         (numbers_ok (with_defaults s) (state_in t) x.rows x.buffers) (eqb t.stopped 1) (within (with_defaults s) o)
     marked o false h =
-        ap (λ (n : ℕ). (refused_by n t, x)) (mark_by (with_defaults s) x (in_range (with_defaults s)))
+        ap (λ (r : Refusal). (refused_by (number r) t, x)) (mark_by (with_defaults s) x (in_range (with_defaults s)))
         ∙ refused_by_lem t x (in_range (with_defaults s)) (lengths_ok (with_defaults s) x)
 
-    go : (r : OperationRecord) → cycle_in (asked_in r t) s t x ≡ in_order r s t x
-    go OperationRecord.Bad = refl
-    go (OperationRecord.Good o) = marked o (mark_ok t) refl
+    go : (r : Result port.Operation Refusal) → cycle_in (asked_in r t) s t x ≡ in_order r s t x
+    go (Err r) = refl
+    go (Ok o) = marked o (mark_ok t) refl
 
 -- it answers n, and tells this count where n is 0
 abbrev Tells : ℕ → ℕ → Told → Type 0
 Tells n count w = (w.answer ≡ n) × (w.count ≡ pick (eqb w.answer done) count 0)
 
 mark_told : (count : ℕ) (g l : Bool)
-    → Tells (pick g (pick l bad_state bad_length) bad_setup) count (told_out (pick g (pick l bad_state bad_length) bad_setup) 0)
+    → Tells (pick g (pick l bad_state bad_length) bad_setup) count (told_out (number (pick g (pick l BadState BadLength) BadSetup)) 0)
 mark_told count true true = (refl, refl)
 mark_told count true false = (refl, refl)
 mark_told count false l = (refl, refl)
@@ -176,10 +177,10 @@ asks_c s t b x = go (mark_ok t)
         → Tells
         (pick (in_range (with_defaults s)) (pick (lengths_ok (with_defaults s) x) (pick (k && numbers_ok (with_defaults s) (state_in t) x.rows x.buffers) (pick (ltb b (banks_of (with_defaults s))) done bad_address) bad_state) bad_length) bad_setup)
         (count_of x.buffers.heads b)
-        (pick k (told_out (waiting_of s (state_in t) b x).answer (waiting_of s (state_in t) b x).count) (told_out (bad_mark (checked_of s) x) 0))
+        (pick k (told_out (waiting_of s (state_in t) b x).answer (waiting_of s (state_in t) b x).count) (told_out (number (bad_mark (checked_of s) x)) 0))
     go true = tells_in_order s (state_in t) b x
     go false =
-        subst (λ (n : ℕ). Tells (pick (in_range (with_defaults s)) (pick (lengths_ok (with_defaults s) x) bad_state bad_length) bad_setup) (count_of x.buffers.heads b) (told_out n 0))
+        subst (λ (r : Refusal). Tells (pick (in_range (with_defaults s)) (pick (lengths_ok (with_defaults s) x) bad_state bad_length) bad_setup) (count_of x.buffers.heads b) (told_out (number r) 0))
         (sym (mark_by (with_defaults s) x (in_range (with_defaults s))))
         (mark_told (count_of x.buffers.heads b) (in_range (with_defaults s)) (lengths_ok (with_defaults s) x))
 
@@ -202,10 +203,10 @@ pub refuses_c : RefusesC
 unfolding Whole cycle_in asked_in
 refuses_c s t op x = go (operation_in op)
   where
-    marked : (o : port.Operation) (b : Bool) → mark_ok t ≡ b → Whole t x (cycle_in (pick b (Asked.Cycle (state_in t) o) Asked.BadMark) s t x)
+    marked : (o : port.Operation) (b : Bool) → mark_ok t ≡ b → Whole t x (cycle_in (pick {A = Asked} b (Ok (state_in t, o)) (Err BadMark)) s t x)
     marked o true h = with_whole t x (cycle_of s (state_in t) o x) h (refuses_whole s (state_in t) o x)
     marked o false h = inr refl
 
-    go : (r : OperationRecord) → Whole t x (cycle_in (asked_in r t) s t x)
-    go OperationRecord.Bad = inr refl
-    go (OperationRecord.Good o) = marked o (mark_ok t) refl
+    go : (r : Result port.Operation Refusal) → Whole t x (cycle_in (asked_in r t) s t x)
+    go (Err r) = inr refl
+    go (Ok o) = marked o (mark_ok t) refl

@@ -2,14 +2,16 @@
 #![tactic(auto)]
 
 ghost use Rattle.std.specs.Prelude.{◌≡◌};
+ghost use Rattle.answers.specs.Answers.{number};
 ghost use Rattle.setup.specs.Setup.{checked_of};
 ghost use Rattle.model.specs.Lent.{lent};
 ghost use Rattle.records.specs.Records.{operation_of};
 ghost use Rattle.setuprecord.specs.SetupRecord.{setup_of, setup_written};
 ghost use Rattle.forms.specs.Forms.{checked_out, refused_by, setup_read, operation_read};
-ghost use Rattle.interface.specs.Interface.{lengths_in, start_out, bad_mark, cycle_out, waiting_out, operation_written_out};
+ghost use Rattle.interface.specs.Interface.{lengths_in, start_out, bad_mark, cycle_out, waiting_out, written_out, operation_written_out};
 
-use forms::{Asked, Checked, Cycled, Lent, Operation, Recorded, Started, State, Told};
+use answers::Refusal;
+use forms::{Checked, Cycled, Lent, Operation, Recorded, Started, State, Told, Unasked};
 use setup::Setup;
 
 // Whether every number of the setup is in range, and the setup with its defaults in.
@@ -24,10 +26,10 @@ pub fn ridkostan_check(setup: Setup) -> Checked
 pub fn ridkostan_lengths(setup: Setup) -> Lent
     ensures { result ≡ lengths_in (checked_of setup) }
 {
-    let setup::Checked::Good(s) = Setup::checked(setup) else {
-        return forms::no_lengths();
-    };
-    forms::lent_out(refusals::lengths(s))
+    match Setup::checked(setup) {
+        Ok(s) => forms::lent_out(refusals::lengths(s)),
+        Err(_) => forms::no_lengths(),
+    }
 }
 
 // A fresh start.
@@ -54,17 +56,20 @@ pub fn ridkostan_fresh_start(
 }
 
 // The answer to a mark out of range: 3, unless 1 or 2 comes first.
-fn bad_mark(setup: Setup, memory: &[u32], rows: &[u32], entries: &[u32], heads: &[u32]) -> u32
+#[tactic(auto, unfolding(crate::specs::Interface::bad_mark))]
+fn bad_mark(setup: Setup, memory: &[u32], rows: &[u32], entries: &[u32], heads: &[u32]) -> Refusal
     ensures { result
         ≡ bad_mark (checked_of setup) (lent memory.now rows.now entries.now heads.now) }
 {
-    let setup::Checked::Good(s) = Setup::checked(setup) else {
-        return answers::BAD_SETUP;
-    };
-    if refusals::lengths_ok(s, memory, rows, entries, heads) {
-        return answers::BAD_STATE;
+    match Setup::checked(setup) {
+        Err(r) => r,
+        Ok(s) => {
+            if refusals::lengths_ok(s, memory, rows, entries, heads) {
+                return Refusal::BadState;
+            }
+            Refusal::BadLength
+        }
     }
-    answers::BAD_LENGTH
 }
 
 // Refuses a mark out of range.
@@ -77,12 +82,13 @@ fn refuse_mark(
     heads: &[u32],
 ) -> Cycled
     ensures { result
-        ≡ refused_by (bad_mark (checked_of setup) (lent memory.now rows.now entries.now heads.now)) t }
+        ≡ refused_by (number (bad_mark (checked_of setup) (lent memory.now rows.now entries.now heads.now))) t }
 {
-    forms::refuse(bad_mark(setup, memory, rows, entries, heads), t)
+    forms::refuse(bad_mark(setup, memory, rows, entries, heads).number(), t)
 }
 
 // One cycle.
+#[tactic(auto, unfolding(crate::specs::Interface::cycle_in))]
 pub fn ridkostan_cycle(
     setup: Setup,
     state: State,
@@ -96,9 +102,9 @@ pub fn ridkostan_cycle(
         ≡ cycle_out setup state operation (lent memory.old rows.old entries.old heads.old) }
 {
     match forms::cycle_asked(state, operation) {
-        Asked::NoOperation => forms::refuse(answers::BAD_RECORD, state),
-        Asked::BadMark => refuse_mark(setup, state, memory, rows, entries, heads),
-        Asked::Cycle(t, op) => {
+        Err(Unasked::NoOperation) => forms::refuse(Refusal::BadRecord.number(), state),
+        Err(Unasked::BadMark) => refuse_mark(setup, state, memory, rows, entries, heads),
+        Ok((t, op)) => {
             let cycled = controller::cycle(setup, t, op, memory, rows, entries, heads);
             forms::cycled_out(cycled)
         }
@@ -106,6 +112,7 @@ pub fn ridkostan_cycle(
 }
 
 // How many entries wait at one bank.
+#[tactic(auto, unfolding(crate::specs::Interface::waiting_out))]
 pub fn ridkostan_waiting(
     setup: Setup,
     state: State,
@@ -131,7 +138,7 @@ pub fn ridkostan_waiting(
         return forms::told_out(told);
     }
     Told {
-        answer: bad_mark(setup, memory, rows, entries, heads),
+        answer: bad_mark(setup, memory, rows, entries, heads).number(),
         count: 0,
     }
 }
@@ -145,9 +152,9 @@ pub fn ridkostan_read_setup(bytes: &[u8]) -> Checked
 
 // Writes a setup over the whole room.
 pub fn ridkostan_write_setup(setup: Setup, room: &mut [u8]) -> u32
-    ensures { (result, room.new) ≡ setup_written setup room.old }
+    ensures { (result, room.new) ≡ written_out (setup_written setup room.old) }
 {
-    setuprecord::write_setup(setup, room)
+    answers::answer_of(setuprecord::write_setup(setup, room))
 }
 
 // The operation in a record.
@@ -161,8 +168,8 @@ pub fn ridkostan_read_operation(bytes: &[u8]) -> Recorded
 pub fn ridkostan_write_operation(operation: Operation, room: &mut [u8]) -> u32
     ensures { (result, room.new) ≡ operation_written_out operation room.old }
 {
-    let records::OperationRecord::Good(op) = forms::operation_in(operation) else {
-        return answers::BAD_RECORD;
-    };
-    records::write_operation(op, room)
+    match forms::operation_in(operation) {
+        Ok(op) => answers::answer_of(records::write_operation(op, room)),
+        Err(_) => Refusal::BadRecord.number(),
+    }
 }

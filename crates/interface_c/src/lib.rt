@@ -7,7 +7,7 @@ ghost use Rattle.model.specs.Lent.{lent};
 ghost use Rattle.records.specs.Records.{operation_of};
 ghost use Rattle.setuprecord.specs.SetupRecord.{setup_of, setup_written};
 ghost use Rattle.forms.specs.Forms.{checked_out, setup_read, operation_read};
-ghost use Rattle.interface.specs.Interface.{lengths_in, start_out, cycle_out, waiting_out, operation_written_out};
+ghost use Rattle.interface.specs.Interface.{lengths_in, start_out, cycle_out, waiting_out, written_out, operation_written_out};
 
 use forms::{Checked, Cycled, Lent, Operation, Recorded, Started, State, Told};
 use setup::Setup;
@@ -89,7 +89,7 @@ pub extern "C" fn ridkostan_read_setup(bytes: &[u8]) -> Checked
 // Writes a setup over the whole room.
 #[unsafe(no_mangle)]
 pub extern "C" fn ridkostan_write_setup(setup: Setup, room: &mut [u8]) -> u32
-    ensures { (result, room.new) ≡ setup_written setup room.old }
+    ensures { (result, room.new) ≡ written_out (setup_written setup room.old) }
 {
     interface::ridkostan_write_setup(setup, room)
 }

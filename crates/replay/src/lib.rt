@@ -6,7 +6,6 @@ ghost use Rattle.answers.specs.Answers.{number};
 ghost use Rattle.setup.specs.Setup.{Sizes};
 ghost use Rattle.model.specs.Lent.{lent};
 ghost use Rattle.records.specs.Records.{operation_of};
-ghost use Rattle.decimal.specs.Decimal.{pair_table};
 ghost use Rattle.listing.specs.Listing.{line_most};
 ghost use Rattle.replay.specs.Replay.{room_for, opening_of, setup_line, records_in, with_record, listed, listed_from, put_at, put_line, zeros_for, Opened, begun};
 
@@ -109,21 +108,13 @@ pub fn begin(s: Setup, memory: &[u32], rows: &mut [u32], entries: &[u32], heads:
 }
 
 // Puts a record's line behind the text, and counts the record.
-fn print(
-    r: Run,
-    state: State,
-    answer: u32,
-    d: Delivery,
-    on: bool,
-    table: &[u8; decimal::PAIRS],
-    out: &mut [u8],
-) -> Run
-    requires { (table.now ≡ pair_table) × (r.end + line_most ≤ length out.old) × (r.number + 1 < 2 ^ 64) }
+fn print(r: Run, state: State, answer: u32, d: Delivery, on: bool, out: &mut [u8]) -> Run
+    requires { (r.end + line_most ≤ length out.old) × (r.number + 1 < 2 ^ 64) }
     ensures { ((result, out.new)
         ≡ put_line out.old r state answer d on)
         × (result.end ≤ r.end + line_most) }
 {
-    let end = listing::put_line(table, out, r.end, r.number, answer, d);
+    let end = listing::put_line(out, r.end, r.number, answer, d);
     Run {
         state,
         number: r.number + 1,
@@ -142,10 +133,9 @@ fn one(
     rows: &mut [u32],
     entries: &mut [u32],
     heads: &mut [u32],
-    table: &[u8; decimal::PAIRS],
     out: &mut [u8],
 ) -> Run
-    requires { (table.now ≡ pair_table) × (r.end + line_most ≤ length out.old) × (r.number + 1 < 2 ^ 64) }
+    requires { (r.end + line_most ≤ length out.old) × (r.number + 1 < 2 ^ 64) }
     ensures { ((result, (lent memory.new rows.new entries.new heads.new, out.new))
         ≡ put_at out.old r.end (with_record s (operation_of bytes.now) (listed_from r (lent memory.old rows.old entries.old heads.old))))
         × (result.end ≤ r.end + line_most) }
@@ -155,13 +145,13 @@ fn one(
         Ok(op) => op,
         Err(refusal) => {
             let answer = refusal.number();
-            return print(r, state, answer, Delivery::None, false, table, out);
+            return print(r, state, answer, Delivery::None, false, out);
         }
     };
     let cycled = controller::cycle(s, state, op, memory, rows, entries, heads);
     let reply = cycled.reply;
     let delivery = reply.delivery;
-    print(r, cycled.state, reply.answer, delivery, true, table, out)
+    print(r, cycled.state, reply.answer, delivery, true, out)
 }
 
 // The lesser of two numbers.
@@ -180,10 +170,9 @@ pub fn part(
     rows: &mut [u32],
     entries: &mut [u32],
     heads: &mut [u32],
-    table: &[u8; decimal::PAIRS],
     out: &mut [u8],
 ) -> Run
-    requires { (table.now ≡ pair_table) × (line_most * records_in (length input.now) ≤ length out.old)
+    requires { (line_most * records_in (length input.now) ≤ length out.old)
         × (run.number + records_in (length input.now) < 2 ^ 64) }
     ensures { ((result, (lent memory.new rows.new entries.new heads.new, out.new))
         ≡ put_at out.old 0 (listed s input.now (listed_from run (lent memory.old rows.old entries.old heads.old))))
@@ -201,17 +190,7 @@ pub fn part(
     while i < count && r.on {
         let from = records::OPERATION_BYTES * i;
         let to = least(from + records::OPERATION_BYTES, input.len());
-        r = one(
-            s,
-            r,
-            &input[from..to],
-            memory,
-            rows,
-            entries,
-            heads,
-            table,
-            out,
-        );
+        r = one(s, r, &input[from..to], memory, rows, entries, heads, out);
         i += 1;
     }
     r

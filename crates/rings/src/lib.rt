@@ -8,11 +8,7 @@ ghost use Rattle.rings.specs.Places.{put_four, onward, back};
 pub fn clear(room: &mut [u32])
     ensures { room.new ≡ replicate (length room.old) 0 }
 {
-    let mut i = 0;
-    while i < room.len() {
-        room[i] = 0;
-        i += 1;
-    }
+    room.fill(0);
 }
 
 // Puts four numbers at place i.

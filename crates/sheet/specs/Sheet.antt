@@ -1,9 +1,9 @@
 -- The document's "Bench examples": each row has what is asked and what is expected, P1, P8 and P9 with the bank by the top bits (Q-1).
-use Rattle.std.specs.Prelude.{ℕ, ◌≡◌, List, [], ◌∷◌, map}
+use Rattle.std.specs.Prelude.{ℕ, ◌≡◌, List, [], ◌∷◌, map, Result, Ok, Err}
 use Rattle.setup.specs.declared.Setup.{Setup}
-use Rattle.setup.specs.declared.Checked.{Checked}
-use Rattle.setup.specs.declared.Checked.TheVariants.{Good, Refused}
-use Rattle.setup.specs.Setup.{checked_of, answer_of, map_of}
+use Rattle.answers.specs.declared.Refusal.{Refusal}
+use Rattle.answers.specs.Answers.{number}
+use Rattle.setup.specs.Setup.{checked_of, map_of}
 use Rattle.setup.specs.Examples.{setup_with}
 use Rattle.map.specs.declared.Cell.{Cell}
 use Rattle.map.specs.Map.{cell_of, bank_of, row_of}
@@ -29,9 +29,9 @@ pub data Outcome : Type 0 where
   held : (words : List ℕ) → Outcome
 
 -- an accepted setup is shown by its delay and its C, once the defaults are in
-abbrev pub setup_outcome : Checked → Outcome
-setup_outcome (Good s) = accepted s.delta s.c
-setup_outcome Refused = refused (answer_of Refused)
+abbrev pub setup_outcome : Result Setup Refusal → Outcome
+setup_outcome (Ok s) = accepted s.delta s.c
+setup_outcome (Err r) = refused (number r)
 
 abbrev pub cell_outcome : Setup → Cell → Outcome
 cell_outcome s x = cell_bank_row x.0 (bank_of (map_of s) x) (row_of (map_of s) x)

@@ -17,4 +17,4 @@ pub slice_bounds-run_all-end-8 : goal.slice_bounds-run_all-end-8
 slice_bounds-run_all-end-8 g c = search (length-take-le, heads_within)
 
 pub run_all-requires : goal.run_all-requires
-run_all-requires g c = (search rules, search (room_cut), search rules, search rules, search rules)
+run_all-requires g c = (search rules, search (room_cut), search rules, search rules)

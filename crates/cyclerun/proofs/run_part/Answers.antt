@@ -24,4 +24,4 @@ adds s parts run r x y part room room' h e =
 
 pub hand_over-written-requires : goal.hand_over-written-requires
 hand_over-written-requires g c =
-    adds c.args.s c.args.parts c.args.run c.part-r.result _ _ _ _ _ c.requires.3 c.part-r.ensures.0
+    adds c.args.s c.args.parts c.args.run c.part-r.result _ _ _ _ _ c.requires.2 c.part-r.ensures.0

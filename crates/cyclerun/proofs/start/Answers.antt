@@ -4,4 +4,4 @@ use Rattle.replay.proofs.Opens.{opened}
 use Rattle.cyclerun.proofs.start.Goals as goal
 
 pub cut-requires : goal.cut-requires
-cut-requires g c = (search (opened), refl, search rules, search rules, search rules)
+cut-requires g c = (search (opened), refl, search rules, search rules)

@@ -1,9 +1,9 @@
 use Rattle.std.proofs.Common.{arith, rules}
-use Rattle.flat.proofs.Flat.{times_none, times-next}
+use Rattle.flat.proofs.Flat.{times_none, times-next, byte_most}
 use Rattle.flat.proofs.times.Goals as goal
 
-pub loop-j-init : goal.loop-j-init
-loop-j-init c = (omega arith, omega arith, search times_none)
+pub loop-y-init : goal.loop-y-init
+loop-y-init c = (omega arith, search times_none)
 
-pub loop-j-preserved : goal.loop-j-preserved
-loop-j-preserved c = (omega arith, omega arith, search (rules, times-next))
+pub loop-y-preserved : goal.loop-y-preserved
+loop-y-preserved c = (omega (arith, byte_most, c.from-n.ensures), search (rules, times-next))

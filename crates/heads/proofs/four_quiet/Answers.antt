@@ -7,12 +7,11 @@ use mathlib.Core.Path.{◌≡◌, sym, ◌∙◌}
 use lib.Bits.{bit_or}
 use lib.Dec.{eqb}
 use borrow.Author.Tests.{eqb-true}
-use Rattle.flat.proofs.Flat.{le_or_l, le_or_r}
+use Rattle.std.proofs.lemmas.Nat.{le_or_l, le_or_r}
 use Rattle.model.specs.Lent.{count_of}
 use Rattle.heads.specs.Heads.{Quiet}
 use Rattle.heads.proofs.four_quiet.Goals as goal
 
--- `heads::four_quiet` meets its contract: bits put together are none only where there are none. Assumes nothing.
 -- four counts whose bits put together are none
 or-none : (a b : ℕ) → bit_or a b ≡ 0 → (a ≡ 0) × (b ≡ 0)
 or-none a b h = let p = le_or_l a b in let q = le_or_r a b in (omega arith, omega arith)

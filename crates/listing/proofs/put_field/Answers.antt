@@ -1,14 +1,11 @@
--- What `put_field` asks and leaves: a number of 64 bits has at most 20 digits.
+-- What `put_field` leaves: the number, and the space behind it.
 use Rattle.std.proofs.Common.{rules, arith}
-use Rattle.decimal.proofs.Digits.{number_most_lem}
-use Rattle.listing.proofs.Lines.{field_stored, length-field}
+use Rattle.decimal.proofs.Texts.{appends_both}
+use Rattle.listing.specs.Listing.{field}
 use Rattle.listing.proofs.put_field.Goals as goal
 
-pub put_number-after-requires : goal.put_number-after-requires
-put_number-after-requires c = (search rules, omega (arith, number_most_lem c.args.n (omega arith)))
-
-pub put_byte-requires : goal.put_byte-requires
-put_byte-requires c = omega (arith, number_most_lem c.args.n (omega arith))
-
 pub returns : goal.returns
-returns c = (search (rules, field_stored), omega (arith, length-field c.args.n))
+unfolding field
+returns c =
+    let both = appends_both _ _ _ _ _ (omega arith) c.put_number.ensures c.put_byte.ensures in
+    search (rules, both)

@@ -1,22 +1,16 @@
--- What `put_line` asks and leaves: its parts one behind the other are the line, and no part is longer than its room.
+-- What `put_line` leaves: its parts one behind the other are the line.
 use Rattle.std.proofs.Common.{rules, arith}
-use Rattle.listing.proofs.Lines.{number_field, word_field, line_stored, length_line}
+use Rattle.decimal.proofs.Texts.{appends_both}
+use Rattle.listing.specs.Listing.{line_of}
+use Rattle.listing.proofs.Lines.{number_field, word_field}
 use Rattle.listing.proofs.put_line.Goals as goal
 
-pub put_field-third-requires : goal.put_field-third-requires
-put_field-third-requires c =
-    (search rules, omega (arith, number_field c.args.number (omega arith), word_field c.args.answer (omega arith)))
-
-pub put_delivery-end-requires : goal.put_delivery-end-requires
-put_delivery-end-requires c =
-    (search rules, omega (arith, number_field c.args.number (omega arith), word_field c.args.answer (omega arith)))
-
-pub put_byte-requires : goal.put_byte-requires
-put_byte-requires c =
-    omega (arith, number_field c.args.number (omega arith), word_field c.args.answer (omega arith))
-
 pub returns : goal.returns
+unfolding line_of
 returns c =
     let first = number_field c.args.number (omega arith) in
-    let second = word_field c.args.answer (omega arith) in
-    (search (rules, line_stored), omega (arith, length_line c.args.number c.args.answer c.args.d), omega arith)
+    let second = word_field c.from-answer_number.result (omega arith) in
+    let fields = appends_both _ _ _ _ _ (omega arith) c.put_field.ensures c.put_field-2.ensures in
+    let texts = appends_both _ _ _ _ _ (omega arith) fields c.put_delivery.ensures.appended in
+    let line = appends_both _ _ _ _ _ (omega arith) texts c.put_byte.ensures in
+    (search (rules, line.bytes_stored), search (rules, line.end_moved), omega arith)

@@ -1,5 +1,5 @@
 -- `service::carry` meets its contract: a write is stored, and a read's word fills its rows. Assumes nothing.
-use Prim.Native.Nat.{ℕ, ◌<◌}
+use Prim.Native.Nat.{ℕ}
 use mathlib.Core.Path.{◌≡◌, sym}
 use mathlib.Core.List.{List}
 use lib.ListN.{get_or, set}
@@ -13,9 +13,6 @@ use Rattle.service.proofs.carry.Goals as goal
 module _ (s : Setup) (e : Entry) (memory rows : List ℕ) where
   carry-write : e.kind ≡ write_entry → (set memory e.cell.0 e.word, rows) ≡ carried s e (memory, rows)
   carry-write h = sym (carried-write s e memory rows h)
-
-  carry-named : (c : ℕ) → ((e.kind ≡ write_entry → ⊥) → e.row < c) → (e.kind ≡ write_entry → ⊥) → e.row < c
-  carry-named c named h = named h
 
   carry-read : {rows' : List ℕ} → (e.kind ≡ write_entry → ⊥)
       → rows' ≡ filled_below s.c e.row (get_or memory e.cell.0 0) s.c rows → (memory, rows') ≡ carried s e (memory, rows)

@@ -1,6 +1,5 @@
 -- `service::serve_bank` meets its contract: with nothing waiting nothing changes, else the oldest entry is carried out. Assumes nothing.
 use Prim.Native.Nat.{ℕ, ◌<◌}
-use native.Mathlib.Omega.{arith}
 use mathlib.Core.Path.{◌≡◌, sym, ap, ◌∙◌}
 use mathlib.Core.List.{List}
 use lib.ListN.{length}
@@ -16,9 +15,6 @@ use borrow.Author.Rules.{rules}
 use Rattle.service.proofs.serve_bank.Goals as goal
 
 -- n is the count of bank b's buffer, and e the oldest entry, as it was read
-some-wait : (n m : ℕ) → n ≡ m → (n ≡ 0 → ⊥) → 0 < m
-some-wait n m e h = omega arith
-
 module _ (s : Setup) (b : ℕ) (memory rows entries heads : List ℕ) (n : ℕ) (en : n ≡ count_of heads b) where
   serve_none : n ≡ 0 → lent memory rows entries heads ≡ served_bank s b (lent memory rows entries heads)
   serve_none h = sym (served_none s b (lent memory rows entries heads) (sym en ∙ h))
