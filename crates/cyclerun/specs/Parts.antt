@@ -1,9 +1,8 @@
 -- What the program reads and prints: the setup file, and the input in parts.
-use Rattle.std.specs.Prelude.{ℕ, ◌+◌, ◌*◌, ◌^◌, ◌≡◌, ◌≤◌, Bool, false, ◌&&◌, List, [], ◌∷◌, ◌++◌, eqb, ltb, length, take}
+use Rattle.std.specs.Prelude.{ℕ, ◌+◌, ◌*◌, ◌^◌, ◌≡◌, ◌≤◌, Bool, false, ◌&&◌, List, [], ◌∷◌, ◌++◌, eqb, ltb, length, take, Ok}
 use Rattle.setup.specs.declared.Setup.{Setup}
 use Rattle.model.specs.Lent.{Lent}
 use Rattle.records.specs.Records.{operation_size}
-use Rattle.replay.specs.declared.Opening.{Opening}
 use Rattle.replay.specs.declared.Run.{Run}
 use Rattle.replay.specs.Replay.{opening_of, Listed, listed, listed_from, first_of, printed_in, printed}
 use Rattle.replay.specs.Parts.{apart}
@@ -20,7 +19,7 @@ IsPrefixLen n room = (n ≤ length room) × (n ≡ length (take n room))
 
 -- its bytes open this setup
 abbrev pub Opens : List ℕ → Setup → Type 0
-Opens file s = opening_of file ≡ Opening.Open s
+Opens file s = opening_of file ≡ Ok s
 
 -- it is refused: this text is all that is printed, whatever the input
 abbrev pub PrintsOnly : List ℕ → List ℕ → Type 0
@@ -49,7 +48,7 @@ Reached s n r x = (before : List ℕ) × ((length before ≡ part_bytes * n) × 
 abbrev pub Adds : Setup → ℕ → List ℕ → List ℕ → Type 0
 Adds s n part text =
     (before : List ℕ)
-    × ((length before ≡ part_bytes * n) × (printed_in (Opening.Open s) (before ++ part) ≡ printed_in (Opening.Open s) before ++ text))
+    × ((length before ≡ part_bytes * n) × (printed_in (Ok s) (before ++ part) ≡ printed_in (Ok s) before ++ text))
 
 -- whether one part more is read behind a part and n before it: no bad record, its text written, the part whole, and parts to come
 abbrev pub goes_on : Run → ℕ → Bool → ℕ → Bool
@@ -82,4 +81,4 @@ texts_of s (p ∷ ps) last x = (listed s p x).text ++ texts_of s ps last (apart 
 -- are what the whole input prints
 abbrev pub Together : Type 0
 Together = (s : Setup) (ps : List (List ℕ)) (last : List ℕ) → AllWhole ps
-    → texts_of s ps last (first_of s) ≡ printed_in (Opening.Open s) (joined ps last)
+    → texts_of s ps last (first_of s) ≡ printed_in (Ok s) (joined ps last)

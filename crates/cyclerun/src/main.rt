@@ -8,7 +8,7 @@ ghost use Rattle.replay.specs.Replay.{records_in, listed, listed_from, put_at, z
 ghost use Rattle.cyclerun.specs.Parts.{IsPrefixLen, Opens, PrintsOnly, part_most, part_bytes, Reached, Adds, Ended};
 
 use model::{Entry, Head, Row};
-use replay::{Opening, Run};
+use replay::Run;
 use setup::Setup;
 use std::fs;
 use std::io::Read;
@@ -200,12 +200,8 @@ fn main(rt: HostRuntime) {
     // One byte more than a setup has, so that a file that is too long is seen.
     let mut file = [0u8; setuprecord::SETUP_BYTES + 1];
     let n = read_setup(&rt, &mut file);
-    let opening = replay::open(&file[..n]);
-    match opening {
-        Opening::Open(s) => start(&rt, &file[..n], s),
-        Opening::Refused(answer) => {
-            let line = replay::setup_line(answer);
-            refuse(&rt, &file[..n], &line);
-        }
+    match replay::open(&file[..n]) {
+        Ok(s) => start(&rt, &file[..n], s),
+        Err(refusal) => refuse(&rt, &file[..n], &replay::setup_line(refusal)),
     }
 }

@@ -1,6 +1,7 @@
 -- A record's line behind the text of the records before it. Assumes nothing.
+use Rattle.std.specs.Prelude.{Result, Ok, Err}
 use Prim.Native.Nat.{ℕ, zero, suc, ◌+◌, ◌-◌, ◌*◌, ◌≤◌, min}
-use mathlib.Core.Path.{◌≡◌, refl, sym, ap, subst, ◌∙◌}
+use mathlib.Core.Path.{◌≡◌, refl, sym, ap, ◌∙◌}
 use mathlib.Core.Bool.{Bool, true, false}
 use mathlib.Core.List.{List, ◌++◌}
 use native.Mathlib.Omega.{arith}
@@ -9,18 +10,15 @@ use native.Mathlib.Nat.{eq-zero-or-pos, min-eq_left, min-eq_right}
 use mathlib.Core.Logic.{⊎_elim}
 use lib.ListN.{length, take, drop, length-append, length-drop}
 use lib.Seq.{take_all}
-use Rattle.answers.specs.Answers.{bad_record}
 use Rattle.choice.specs.Choice.{pick}
+use Rattle.answers.specs.declared.Refusal.{Refusal}
 use Rattle.setup.specs.declared.Setup.{Setup}
 use Rattle.port.specs.declared.Operation.{Operation}
 use Rattle.port.specs.declared.Delivery.{Delivery}
 use Rattle.model.specs.declared.State.{State}
-use Rattle.model.specs.declared.Cycled.{Cycled}
 use Rattle.model.specs.Lent.{Lent}
-use Rattle.model.specs.Calls.{cycle_of}
 use Rattle.model.specs.Runs.{Machine}
 use Rattle.records.specs.Records.{operation_size, operation_of}
-use Rattle.records.specs.declared.OperationRecord.{OperationRecord}
 use Rattle.decimal.specs.Decimal.{stored}
 use Rattle.listing.specs.Listing.{line_of}
 use Rattle.decimal.proofs.Stores.{stored_none, stored-after}
@@ -36,32 +34,11 @@ pub line_put : (r : Run) (t : State) (answer : ℕ) (d : Delivery) (on : Bool) (
     → (record { state = t; number = r.number + 1; on = on; end = end }, room') ≡ put_line room r t answer d on
 line_put r t answer d on room room' end e a = cc
 
--- the line of a call's reply, and what the call leaves
-abbrev replied : List ℕ → Run → Cycled × Lent → Run × (Lent × List ℕ)
-replied room r (k, m) =
-    let p = put_line room r k.state k.reply.answer k.reply.delivery true in
-    (p.0, (m, p.1))
-
-module _ (s : Setup) (r x : Run) (bytes : List ℕ) (m : Lent) (room room' : List ℕ) (p : OperationRecord) (ep : p ≡ operation_of bytes) where
-  pub one_bad : p ≡ OperationRecord.Bad → (x, room') ≡ put_line room r r.state bad_record Delivery.None false
-      → (x, (m, room')) ≡ put_at room r.end (with_record s (operation_of bytes) (listed_from r m))
-  unfolding with_record
-  one_bad h e = rw (← ep, h) (ap (λ (w : Run × List ℕ). (w.0, (m, w.1))) e)
-
-  pub one_good : (op : Operation) (k : Cycled) (m' : Lent) → p ≡ OperationRecord.Good op → (k, m') ≡ cycle_of s r.state op m
-      → (x, room') ≡ put_line room r k.state k.reply.answer k.reply.delivery true
-      → (x, (m', room')) ≡ put_at room r.end (with_record s (operation_of bytes) (listed_from r m))
-  unfolding with_record
-  one_good op k m' h e z =
-      let y : Run × (Lent × List ℕ) = (x, (m', room')) in
-      let g : y ≡ replied room r (k, m') = ap (λ (v : Run × List ℕ). (v.0, (m', v.1))) z in
-      rw (← ep, h) (subst (λ (w : Cycled × Lent). y ≡ replied room r w) e g)
-
 ------------------------------------------------------------------------
 -- One record more. y is the run so far, as the code holds it
 
 -- the run after one more record, from what the code holds
-abbrev stepped : Setup → OperationRecord → Run × (Lent × List ℕ) → Run × (Lent × List ℕ)
+abbrev stepped : Setup → Result Operation Refusal → Run × (Lent × List ℕ) → Run × (Lent × List ℕ)
 stepped s p w = put_at w.1.1 w.0.end (with_record s p (listed_from w.0 w.1.0))
 
 -- a line put behind a text is the text with the line
@@ -72,16 +49,16 @@ line_behind room y answer d on w =
     let l : (0 + length y.text) + length line ≡ 0 + length (y.text ++ line) = rw (length-append y.text line) (omega arith) in
     rw (l, stored-after room 0 y.text line (omega arith))
 
-stepped-behind : (s : Setup) (p : OperationRecord) (room : List ℕ) (y : Listed) → stepped s p (put_at room 0 y) ≡ put_at room 0 (with_record s p y)
+stepped-behind : (s : Setup) (p : Result Operation Refusal) (room : List ℕ) (y : Listed) → stepped s p (put_at room 0 y) ≡ put_at room 0 (with_record s p y)
 unfolding with_record
-stepped-behind s OperationRecord.Bad room y = line_behind room y _ _ _ _
-stepped-behind s (OperationRecord.Good op) room y = line_behind room y _ _ _ _
+stepped-behind s (Err e) room y = line_behind room y _ _ _ _
+stepped-behind s (Ok op) room y = line_behind room y _ _ _ _
 
 -- counted on, whatever the record is
-counted : (s : Setup) (p : OperationRecord) (x : Listed) → (with_record s p x).number ≡ x.number + 1
+counted : (s : Setup) (p : Result Operation Refusal) (x : Listed) → (with_record s p x).number ≡ x.number + 1
 unfolding with_record
-counted s OperationRecord.Bad x = refl
-counted s (OperationRecord.Good op) x = refl
+counted s (Err e) x = refl
+counted s (Ok op) x = refl
 
 pub number_next : (s : Setup) (bytes : List ℕ) (r r' : Run) (m m' : Lent) (room room' : List ℕ) (i n : ℕ)
     → (r', (m', room')) ≡ put_at room r.end (with_record s (operation_of bytes) (listed_from r m))
@@ -123,7 +100,7 @@ module _ (s : Setup) (input : List ℕ) (x : Listed) (room₀ : List ℕ) (i : �
   unfolding listed_below
   listed_next {r'} {m'} {room'} bytes h b z =
       let y : Listed = listed_below s input i x in
-      let p : OperationRecord = operation_of (record_at input i) in
+      let p : Result Operation Refusal = operation_of (record_at input i) in
       let on : y.on ≡ true = sym (ap (λ (w : Run × (Lent × List ℕ)). w.0.on) e) ∙ h in
       let q : (r', (m', room')) ≡ stepped s p (r, (m, room)) = z ∙ ap (λ (l : List ℕ). stepped s (operation_of l) (r, (m, room))) b in
       rw (add-one, below_on s input i x on) (q ∙ ap (λ (w : Run × (Lent × List ℕ)). stepped s p w) e ∙ stepped-behind s p room₀ y)

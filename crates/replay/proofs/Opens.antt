@@ -1,19 +1,22 @@
 -- What the setup file opens: what each return knows, the line of a refused setup, and what an opened setup is known to be. Assumes nothing.
+use Rattle.std.specs.Prelude.{Result, Ok, Err}
 use Prim.Native.Nat.{ℕ, zero, suc, ◌+◌, ◌*◌, ◌^◌, ◌≤◌, ◌<◌}
-use mathlib.Core.Path.{◌≡◌, refl, sym, ap, subst, ◌∙◌}
-use mathlib.Core.Bool.{Bool, true, false, ◌&&◌}
+use mathlib.Core.Path.{◌≡◌, refl, ap, subst, ◌∙◌}
+use mathlib.Core.Bool.{Bool, true, false}
 use mathlib.Core.List.{List, [], ◌∷◌}
 use native.Mathlib.Nat.{mod-eq_of_lt, mul-le-mul}
 use native.Mathlib.Omega.{arith}
-use lib.Dec.{leb, eqb}
+use lib.Dec.{eqb}
 use lib.ListN.{length, take, replicate, length-replicate}
 use lib.Pow.{pow_mono}
 use borrow.Author.Tests.{eq-eqb, ne_eqb, leb-true}
-use Rattle.answers.specs.Answers.{done, bad_setup, room_too_small}
+use Rattle.answers.specs.declared.Refusal.{Refusal}
+use Rattle.answers.specs.declared.Refusal.TheVariants.{BadSetup, RoomTooSmall}
+use Rattle.answers.specs.Answers.{done, number}
+use Rattle.answers.proofs.Numbers.{number_range}
 use Rattle.setup.specs.Setup.{Ranges, least_delta, with_defaults, in_range, checked_of, words_of, banks_of}
 use Rattle.choice.specs.Choice.{pick}
 use Rattle.setup.specs.declared.Setup.{Setup}
-use Rattle.setup.specs.declared.Checked.{Checked}
 use Rattle.setup.proofs.Ranges.{and_l, and_r, good_ranges, banks_most}
 use Rattle.model.specs.declared.State.{State}
 use Rattle.model.specs.declared.Started.{Started}
@@ -22,43 +25,16 @@ use Rattle.model.specs.Range.{lengths_ok}
 use Rattle.model.specs.Calls.{exact_in, started, fresh_state, fresh_in, fresh_of}
 use Rattle.setuprecord.specs.SetupRecord.{setup_of}
 use Rattle.setuprecord.proofs.Choice.{first}
-use Rattle.setuprecord.specs.declared.SetupRecord.{SetupRecord}
 use Rattle.decimal.specs.Decimal.{ten, nought}
 use Rattle.decimal.proofs.Digits.{decimal-one}
-use Rattle.replay.specs.declared.Opening.{Opening}
 use Rattle.replay.specs.Replay.{most_a, most_c, most_places, room_for, opening_in, opening_for, opening_of, setup_line, zeros_for, most_banks, whole_room, Opened, begun}
-
-------------------------------------------------------------------------
--- Opening. g is what the record reads as, k what the check of its setup answered, b what the test of the room answered
-
-pub room_test : (s : Setup) (n : ℕ) → n ≡ banks_of s → leb s.a most_a && leb s.c most_c && leb (n * s.k) most_places ≡ room_for s
-room_test s n e = rw e
-
-module _ (file : List ℕ) (g : SetupRecord) (eg : g ≡ setup_of file) where
-  pub open_refused : g ≡ SetupRecord.Refused → Opening.Refused bad_setup ≡ opening_of file
-  unfolding opening_for
-  open_refused h = cc
-
-  module _ (s : Setup) (hg : g ≡ SetupRecord.Good s) (k : Checked) (ek : k ≡ checked_of s) where
-    pub open_unchecked : k ≡ Checked.Refused → Opening.Refused bad_setup ≡ opening_of file
-    unfolding opening_for
-    open_unchecked h = cc
-
-    module _ (f : Setup) (hk : k ≡ Checked.Good f) (b : Bool) (eb : b ≡ room_for f) where
-      pub open_good : b ≡ true → Opening.Open f ≡ opening_of file
-      unfolding opening_for
-      open_good h = cc
-
-      pub open_large : b ≡ false → Opening.Refused room_too_small ≡ opening_of file
-      unfolding opening_for
-      open_large h = cc
 
 ------------------------------------------------------------------------
 -- The line of a refused setup
 
-pub line_digit : (answer : ℕ) → answer < ten → 115 ∷ 101 ∷ 116 ∷ 117 ∷ 112 ∷ 32 ∷ (nought + answer) ∷ 10 ∷ [] ≡ setup_line answer
+pub line_digit : (r : Refusal) → 115 ∷ 101 ∷ 116 ∷ 117 ∷ 112 ∷ 32 ∷ (nought + number r) ∷ 10 ∷ [] ≡ setup_line (number r)
 unfolding setup_line
-line_digit answer h = rw (decimal-one answer h, mod-eq_of_lt h)
+line_digit r = let h : number r < ten = omega (arith, number_range r) in rw (decimal-one (number r) h, mod-eq_of_lt h)
 
 ------------------------------------------------------------------------
 -- What an opened setup is known to be
@@ -71,51 +47,32 @@ own_defaults s g =
     let c : eqb s.c 0 ≡ false = ne_eqb s.c 0 (λ z. omega (arith, g.delta_least, g.c_least)) in
     rw (d, c)
 
-checked_again : (s f : Setup) → checked_of s ≡ Checked.Good f → checked_of f ≡ Checked.Good f
+not_open : (r : Refusal) (s : Setup) → Err r ≡ Ok s → ⊥
+not_open r s h = let z : ◌≡◌ {A = ℕ} 0 1 = cc h in omega arith
+
+checked_again : (s f : Setup) → checked_of s ≡ Ok f → checked_of f ≡ Ok f
 checked_again s f h =
-    let never : Checked.Refused ≡ Checked.Good f → ⊥ = λ z. let n : ◌≡◌ {A = ℕ} 0 1 = cc z in absurd (omega arith) in
-    let p = first (in_range (with_defaults s)) (Checked.Good (with_defaults s)) Checked.Refused (Checked.Good f) never h in
+    let p = first (in_range (with_defaults s)) (Ok (with_defaults s)) (Err BadSetup) (Ok f) (not_open BadSetup f) h in
     let e : with_defaults s ≡ f = cc p.1 in
     let i : in_range f ≡ true = subst (λ (g : Setup). in_range g ≡ true) e p.0 in
-    ap (λ (g : Setup). pick (in_range g) (Checked.Good g) Checked.Refused) (own_defaults f (good_ranges s f (checked_of s) refl h))
-    ∙ ap (λ (b : Bool). pick b (Checked.Good f) Checked.Refused) i
+    ap (λ (g : Setup). pick (in_range g) (Ok g) (Err BadSetup)) (own_defaults f (good_ranges s f (checked_of s) refl h))
+    ∙ ap (λ (b : Bool). pick b (Ok f) (Err BadSetup)) i
 
--- an opening is one of the two
-apart : (s : Setup) (n : ℕ) → Opening.Refused n ≡ Opening.Open s → ⊥
-apart s n z = let m : ◌≡◌ {A = ℕ} 0 1 = cc z in omega arith
-
-opened_checked : (g s : Setup) (k : Checked) → checked_of g ≡ k → opening_in k ≡ Opening.Open s → Opened s
-opened_checked g s Checked.Refused e h = absurd (apart s bad_setup h)
-opened_checked g s (Checked.Good f) e h =
-    let p = first (room_for f) (Opening.Open f) (Opening.Refused room_too_small) (Opening.Open s) (apart s room_too_small) h in
+opened_checked : (g s : Setup) (k : Result Setup Refusal) → checked_of g ≡ k → opening_in k ≡ Ok s → Opened s
+opened_checked g s (Err r) e h = absurd (not_open r s h)
+opened_checked g s (Ok f) e h =
+    let p = first (room_for f) (Ok f) (Err RoomTooSmall) (Ok s) (not_open RoomTooSmall s) h in
     let x : Opened f = record { ranges = good_ranges g f (checked_of g) refl e; checked = checked_again g f e; room = p.0 } in
     let same : f ≡ s = cc p.1 in
     subst (λ (f : Setup). Opened f) same x
 
-opened_record : (r : SetupRecord) (s : Setup) → opening_for r ≡ Opening.Open s → Opened s
+opened_record : (r : Result Setup Refusal) (s : Setup) → opening_for r ≡ Ok s → Opened s
 unfolding opening_for
-opened_record SetupRecord.Refused s h = absurd (apart s bad_setup h)
-opened_record (SetupRecord.Good g) s h = opened_checked g s (checked_of g) refl h
+opened_record (Err r) s h = absurd (not_open r s h)
+opened_record (Ok g) s h = opened_checked g s (checked_of g) refl h
 
-pub opened : (file : List ℕ) (o : Opening) (s : Setup) → o ≡ opening_of file → o ≡ Opening.Open s → Opened s
-opened file o s e h = opened_record (setup_of file) s (sym e ∙ h)
-
--- the answer of a refused setup has one digit
-refused-room : (f : Setup) (b : Bool) (n : ℕ) → pick b (Opening.Open f) (Opening.Refused room_too_small) ≡ Opening.Refused n → n < ten
-refused-room f true n h = absurd (apart f n (sym h))
-refused-room f false n h = let e : room_too_small ≡ n = cc h in omega arith
-
-refused_checked : (k : Checked) (n : ℕ) → opening_in k ≡ Opening.Refused n → n < ten
-refused_checked Checked.Refused n h = let e : bad_setup ≡ n = cc h in omega arith
-refused_checked (Checked.Good f) n h = refused-room f (room_for f) n h
-
-refused_record : (r : SetupRecord) (n : ℕ) → opening_for r ≡ Opening.Refused n → n < ten
-unfolding opening_for
-refused_record SetupRecord.Refused n h = let e : bad_setup ≡ n = cc h in omega arith
-refused_record (SetupRecord.Good g) n h = refused_checked (checked_of g) n h
-
-pub refused-digit : (file : List ℕ) (o : Opening) (n : ℕ) → o ≡ opening_of file → o ≡ Opening.Refused n → n < ten
-refused-digit file o n e h = refused_record (setup_of file) n (sym e ∙ h)
+pub opened : (file : List ℕ) (s : Setup) → opening_of file ≡ Ok s → Opened s
+opened file s h = opened_record (setup_of file) s h
 
 ------------------------------------------------------------------------
 -- The part of the program's room that an opened setup asks for. w and b are its words and banks

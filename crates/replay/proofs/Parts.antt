@@ -1,4 +1,5 @@
 -- The input may be cut into parts behind any record. Assumes nothing.
+use Rattle.std.specs.Prelude.{Result, Ok, Err}
 use Prim.Native.Nat.{ℕ, zero, suc, ◌+◌, ◌*◌, ◌≤◌, ◌<◌}
 use mathlib.Core.Path.{◌≡◌, refl, ap, ◌∙◌}
 use mathlib.Core.Bool.{Bool, true, false}
@@ -8,9 +9,10 @@ use native.Mathlib.Omega.{arith}
 use lib.ListN.{length, drop, length-append, length-drop}
 use lib.Seq.{take-append-le, drop-append-le, drop-append-add}
 use Rattle.choice.specs.Choice.{pick}
+use Rattle.answers.specs.declared.Refusal.{Refusal}
 use Rattle.setup.specs.declared.Setup.{Setup}
+use Rattle.port.specs.declared.Operation.{Operation}
 use Rattle.records.specs.Records.{operation_size, operation_of}
-use Rattle.records.specs.declared.OperationRecord.{OperationRecord}
 use Rattle.replay.specs.Replay.{Listed, with_record, record_at, records_in, listed_below, listed}
 use Rattle.replay.specs.Parts.{apart, behind, InParts}
 
@@ -38,7 +40,7 @@ module _ (p q : List ℕ) (n : ℕ) (l : length p ≡ operation_size * n) where
 -- One part and then the other
 
 -- one record more, where it reads as p
-abbrev next : Setup → OperationRecord → Listed → Listed
+abbrev next : Setup → Result Operation Refusal → Listed → Listed
 next s p y = pick y.on (with_record s p y) y
 
 module _ (s : Setup) (p q : List ℕ) (n : ℕ) (l : length p ≡ operation_size * n) (x : Listed) where
@@ -63,16 +65,16 @@ module _ (s : Setup) (p q : List ℕ) (n : ℕ) (l : length p ≡ operation_size
 ------------------------------------------------------------------------
 -- The text before stands in front
 
-record_behind : (s : Setup) (p : OperationRecord) (text : List ℕ) (y : Listed) → with_record s p (behind text y) ≡ behind text (with_record s p y)
+record_behind : (s : Setup) (p : Result Operation Refusal) (text : List ℕ) (y : Listed) → with_record s p (behind text y) ≡ behind text (with_record s p y)
 unfolding with_record
-record_behind s OperationRecord.Bad text y = rw append_assoc
-record_behind s (OperationRecord.Good op) text y = rw append_assoc
+record_behind s (Err e) text y = rw append_assoc
+record_behind s (Ok op) text y = rw append_assoc
 
 picked_behind : (b : Bool) (text : List ℕ) (y u v : Listed) → v ≡ behind text u → pick b v (behind text y) ≡ behind text (pick b u y)
 picked_behind true text y u v e = e
 picked_behind false text y u v e = refl
 
-next-behind : (s : Setup) (p : OperationRecord) (text : List ℕ) (y : Listed) → next s p (behind text y) ≡ behind text (next s p y)
+next-behind : (s : Setup) (p : Result Operation Refusal) (text : List ℕ) (y : Listed) → next s p (behind text y) ≡ behind text (next s p y)
 next-behind s p text y = picked_behind y.on text y _ _ (record_behind s p text y)
 
 below-behind : (s : Setup) (q : List ℕ) (i : ℕ) (text : List ℕ) (x : Listed) → listed_below s q i (behind text x) ≡ behind text (listed_below s q i x)

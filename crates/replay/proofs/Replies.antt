@@ -1,4 +1,5 @@
 -- The lines of recorded operations are the replies of their run. Assumes nothing.
+use Rattle.std.specs.Prelude.{Result}
 use Prim.Native.Nat.{ℕ, suc, ◌+◌, ◌≤◌}
 use mathlib.Core.Path.{◌≡◌, refl, sym, ap, ◌∙◌}
 use mathlib.Core.List.{List, [], ◌∷◌, ◌++◌}
@@ -6,6 +7,7 @@ use native.Mathlib.Nat.{add-zero}
 use native.Mathlib.Omega.{arith}
 use lib.ListN.{length}
 use lib.Seq.{take_all}
+use Rattle.answers.specs.declared.Refusal.{Refusal}
 use Rattle.setup.specs.declared.Setup.{Setup}
 use Rattle.port.specs.declared.Operation.{Operation}
 use Rattle.port.specs.declared.Operation.TheVariants.{Idle, Read, Write}
@@ -13,7 +15,6 @@ use Rattle.model.specs.Runs.{Machine, after, reply_of, replies, after_all}
 use Rattle.octets.specs.Bytes.{bytes_of}
 use Rattle.records.specs.Records.{operation_size, operation_of, operation_bytes}
 use Rattle.records.specs.RoundTrip.{Fits}
-use Rattle.records.specs.declared.OperationRecord.{OperationRecord}
 use Rattle.records.proofs.RoundTrip.{operation_good}
 use Rattle.listing.specs.Listing.{line_of}
 use Rattle.replay.specs.Replay.{Listed, with_record, records_in, listed_below, listed}
@@ -37,7 +38,7 @@ one-reply s op n w f =
     let long : length b ≤ operation_size = omega (arith, bytes_long op) in
     ap (λ (k : ℕ). listed_below s b (records_in k) x) (bytes_long op)
     ∙ ap (λ (r : List ℕ). with_record s (operation_of r) x) (take_all operation_size b long)
-    ∙ ap (λ (r : OperationRecord). with_record s r x) (operation_good op f)
+    ∙ ap (λ (r : Result Operation Refusal). with_record s r x) (operation_good op f)
 
 pub as_replies : AsReplies
 unfolding bytes_for lines_for replies after_all listed_below

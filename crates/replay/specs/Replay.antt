@@ -1,10 +1,12 @@
 -- The document's "Records", last paragraph: what `cyclerun` prints.
-use Rattle.std.specs.Prelude.{ℕ, zero, suc, ◌+◌, ◌-◌, ◌*◌, ◌/◌, ◌^◌, ◌≡◌, Bool, true, false, ◌&&◌, List, [], ◌∷◌, ◌++◌, leb, length, take, drop}
-use Rattle.answers.specs.Answers.{room_too_small}
+use Rattle.std.specs.Prelude.{ℕ, zero, suc, ◌+◌, ◌-◌, ◌*◌, ◌/◌, ◌^◌, ◌≡◌, Bool, true, false, ◌&&◌, List, [], ◌∷◌, ◌++◌, leb, length, take, drop, Result, Ok, Err}
+use Rattle.answers.specs.declared.Refusal.{Refusal}
+use Rattle.answers.specs.declared.Refusal.TheVariants.{RoomTooSmall}
+use Rattle.answers.specs.Answers.{number}
 use Rattle.choice.specs.Choice.{pick}
-use Rattle.setup.specs.Setup.{Ranges, checked_of, answer_of, banks_of}
+use Rattle.setup.specs.Setup.{Ranges, checked_of, banks_of}
 use Rattle.setup.specs.declared.Setup.{Setup}
-use Rattle.setup.specs.declared.Checked.{Checked}
+use Rattle.port.specs.declared.Operation.{Operation}
 use Rattle.port.specs.declared.Delivery.{Delivery}
 use Rattle.model.specs.declared.State.{State}
 use Rattle.model.specs.Lent.{Lent}
@@ -12,12 +14,9 @@ use Rattle.model.specs.Range.{lengths_for, lengths_of, zeroed}
 use Rattle.model.specs.Calls.{fresh_state}
 use Rattle.model.specs.Runs.{Machine, after, reply_of}
 use Rattle.records.specs.Records.{operation_size, operation_of, operation_answer}
-use Rattle.setuprecord.specs.SetupRecord.{setup_of, record_answer}
-use Rattle.records.specs.declared.OperationRecord.{OperationRecord}
-use Rattle.setuprecord.specs.declared.SetupRecord.{SetupRecord}
+use Rattle.setuprecord.specs.SetupRecord.{setup_of}
 use Rattle.decimal.specs.Decimal.{decimal, stored}
 use Rattle.listing.specs.Listing.{space, newline, line_of}
-use Rattle.replay.specs.declared.Opening.{Opening}
 use Rattle.replay.specs.declared.Run.{Run}
 
 ------------------------------------------------------------------------
@@ -37,17 +36,17 @@ abbrev pub room_for : Setup → Bool
 room_for s = leb s.a most_a && leb s.c most_c && leb (banks_of s * s.k) most_places
 
 -- one too large prints `setup 8`: it is compared after the defaults
-abbrev pub opening_in : Checked → Opening
-opening_in Checked.Refused = Opening.Refused (answer_of Checked.Refused)
-opening_in (Checked.Good s) = pick (room_for s) (Opening.Open s) (Opening.Refused room_too_small)
+abbrev pub opening_in : Result Setup Refusal → Result Setup Refusal
+opening_in (Err r) = Err r
+opening_in (Ok s) = pick (room_for s) (Ok s) (Err RoomTooSmall)
 
 -- a setup that is missing, of the wrong length or refused by 1 prints `setup 1`
-unfoldable pub opening_for : SetupRecord → Opening
-opening_for SetupRecord.Refused = Opening.Refused (record_answer SetupRecord.Refused)
-opening_for (SetupRecord.Good s) = opening_in (checked_of s)
+unfoldable pub opening_for : Result Setup Refusal → Result Setup Refusal
+opening_for (Err r) = Err r
+opening_for (Ok s) = opening_in (checked_of s)
 
 -- of the bytes of the file `setup`, none where it is missing
-abbrev pub opening_of : List ℕ → Opening
+abbrev pub opening_of : List ℕ → Result Setup Refusal
 opening_of file = opening_for (setup_of file)
 
 -- `setup`
@@ -73,9 +72,9 @@ with_line x answer d on w =
     record { text = x.text ++ line_of x.number answer d; number = x.number + 1; on = on; machine = w }
 
 -- a bad record prints its line with 9 and ends the run: the controller is not asked, also after a stop
-unfoldable pub with_record : Setup → OperationRecord → Listed → Listed
-with_record s OperationRecord.Bad x = with_line x (operation_answer OperationRecord.Bad) Delivery.None false x.machine
-with_record s (OperationRecord.Good op) x =
+unfoldable pub with_record : Setup → Result Operation Refusal → Listed → Listed
+with_record s (Err r) x = with_line x (operation_answer (Err r)) Delivery.None false x.machine
+with_record s (Ok op) x =
     with_line x (reply_of s op x.machine).answer (reply_of s op x.machine).delivery true (after s op x.machine)
 
 -- record i of the input: the last has as many bytes as are left
@@ -113,9 +112,9 @@ whole_room = zeroed (lengths_for (2 ^ most_a) most_c most_places most_banks)
 abbrev pub first_of : Setup → Listed
 first_of s = record { text = []; number = 0; on = true; machine = (fresh_state, zeros_for s) }
 
-unfoldable pub printed_in : Opening → List ℕ → List ℕ
-printed_in (Opening.Refused answer) input = setup_line answer
-printed_in (Opening.Open s) input = (listed s input (first_of s)).text
+unfoldable pub printed_in : Result Setup Refusal → List ℕ → List ℕ
+printed_in (Err r) input = setup_line (number r)
+printed_in (Ok s) input = (listed s input (first_of s)).text
 
 -- what is printed for the bytes of the file `setup` and of standard input
 abbrev pub printed : List ℕ → List ℕ → List ℕ
@@ -145,7 +144,7 @@ put_line room r t answer d on = (
 -- what a caller knows of a setup that the file opens
 pub record Opened (s : Setup) : Type 0 where
   pub ranges : Ranges s
-  pub checked : checked_of s ≡ Checked.Good s
+  pub checked : checked_of s ≡ Ok s
   pub room : room_for s ≡ true
 
 -- a run before its first record, as `first_of` has it: a fresh start leaves zeros everywhere

@@ -2,25 +2,17 @@
 #![tactic(auto)]
 
 ghost use Rattle.std.specs.Prelude.{◌≡◌, ◌+◌, ◌*◌, ◌^◌, ◌≤◌, ◌<◌, min, length};
+ghost use Rattle.answers.specs.Answers.{number};
 ghost use Rattle.setup.specs.Setup.{Sizes};
 ghost use Rattle.model.specs.Lent.{lent};
 ghost use Rattle.records.specs.Records.{operation_of};
-ghost use Rattle.decimal.specs.Decimal.{ten};
 ghost use Rattle.listing.specs.Listing.{line_most};
 ghost use Rattle.replay.specs.Replay.{room_for, opening_of, setup_line, records_in, with_record, listed, listed_from, put_at, put_line, zeros_for, Opened, begun};
 
+use answers::Refusal;
 use model::{Entry, Head, Row, State};
 use port::Delivery;
-use records::OperationRecord;
-use setup::{Checked, Setup};
-use setuprecord::SetupRecord;
-
-// What the setup file opens: a run under its setup with the defaults in, or the answer that refuses it.
-#[derive(Clone, Copy)]
-pub enum Opening {
-    Open(Setup),
-    Refused(u32),
-}
+use setup::Setup;
 
 // A run between two records.
 #[derive(Clone, Copy)]
@@ -63,26 +55,23 @@ fn room_for(s: Setup) -> bool
     (s.a <= MOST_A) & (s.c <= MOST_C) & (s.banks() * (s.k as u32) <= MOST_PLACES)
 }
 
-// What the bytes of the setup file open.
-pub fn open(file: &[u8]) -> Opening
+// The setup that the bytes of the setup file open, its defaults in, or why it is refused.
+#[tactic(auto, unfolding(crate::specs::Replay::opening_for))]
+pub fn open(file: &[u8]) -> Result<Setup, Refusal>
     ensures { result ≡ opening_of file.now }
 {
-    let SetupRecord::Good(given) = setuprecord::read_setup(file) else {
-        return Opening::Refused(answers::BAD_SETUP);
-    };
-    let Checked::Good(s) = Setup::checked(given) else {
-        return Opening::Refused(answers::BAD_SETUP);
-    };
+    let given = setuprecord::read_setup(file)?;
+    let s = Setup::checked(given)?;
     if room_for(s) {
-        return Opening::Open(s);
+        return Ok(s);
     }
-    Opening::Refused(answers::ROOM_TOO_SMALL)
+    Err(Refusal::RoomTooSmall)
 }
 
 // The line of a refused setup.
-pub fn setup_line(answer: u32) -> [u8; SETUP_LINE]
-    requires { answer < ten }
-    ensures { result ≡ setup_line answer }
+#[tactic(auto, using(crate::proofs::Opens::line_digit))]
+pub fn setup_line(refusal: Refusal) -> [u8; SETUP_LINE]
+    ensures { result ≡ setup_line (number refusal) }
 {
     [
         b's',
@@ -91,7 +80,7 @@ pub fn setup_line(answer: u32) -> [u8; SETUP_LINE]
         b'u',
         b'p',
         b' ',
-        b'0' + (answer as u8),
+        b'0' + (refusal.number() as u8),
         b'\n',
     ]
 }
@@ -135,6 +124,7 @@ fn print(r: Run, state: State, answer: u32, d: Delivery, on: bool, out: &mut [u8
 }
 
 // Runs one record.
+#[tactic(auto, unfolding(crate::specs::Replay::with_record))]
 fn one(
     s: Setup,
     r: Run,
@@ -151,8 +141,12 @@ fn one(
         × (result.end ≤ r.end + line_most) }
 {
     let state = r.state;
-    let OperationRecord::Good(op) = records::read_operation(bytes) else {
-        return print(r, state, answers::BAD_RECORD, Delivery::None, false, out);
+    let op = match records::read_operation(bytes) {
+        Ok(op) => op,
+        Err(refusal) => {
+            let answer = refusal.number();
+            return print(r, state, answer, Delivery::None, false, out);
+        }
     };
     let cycled = controller::cycle(s, state, op, memory, rows, entries, heads);
     let reply = cycled.reply;
