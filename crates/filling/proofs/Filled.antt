@@ -3,7 +3,7 @@ use Prim.Native.Nat.{ℕ, zero, suc, ◌+◌, ◌-◌, ◌*◌, ◌≤◌, ◌<�
 use native.Mathlib.Numerals.{add-one}
 use native.Mathlib.Omega.{arith}
 use mathlib.Core.Path.{◌≡◌, refl, sym, ap, subst, ◌∙◌}
-use mathlib.Core.Bool.{Bool, true, false, ◌&&◌}
+use mathlib.Core.Bool.{false, and-false}
 use mathlib.Core.Logic.{⊎_elim}
 use mathlib.Core.List.{List}
 use lib.Dec.{eqb}
@@ -12,12 +12,14 @@ use borrow.Author.Tests.{ne_eqb}
 use borrow.Rule.Slice.PartMut.{mid_of}
 use Rattle.flat.specs.Flat.{block, times}
 use Rattle.flat.proofs.Parts.{part_free}
-use Rattle.model.specs.Lent.{row_numbers, kinds, links, row_at, waiting_kind}
+use Rattle.model.specs.Lent.{row_numbers, links, row_at}
 use Rattle.model.specs.Cycle.{lacks, filled_row, filled_below}
 use Rattle.model.specs.declared.Row.{Row}
 use Rattle.choice.proofs.Tests.{pick_either, same_or_not, below_or_not}
 use Rattle.model.proofs.Rows.{filled, length-filled_row, row-filled_same, row-filled_other, length-filled, row-filled_above, row-filled_below}
 use Rattle.model.proofs.Lent.{rows_same}
+use Rattle.table.specs.Table.{column}
+use Rattle.table.proofs.Columns.{column_at, column_long}
 use Rattle.filling.specs.Filling.{Has, Calm, filled_from}
 
 -- rows of which none lacks a word stay as they are; and one by one
@@ -74,26 +76,23 @@ filled_few c p w l m h =
     let e : 0 + (c - 0) ≡ c = omega arith in
     subst (λ (z : ℕ). m ≡ filled_below c p w z l) e (h ∙ filled_on c p w 0 (c - 0) l)
 
--- a row that names another, or is none that waits, lacks nothing
-and_no : (b : Bool) → b && false ≡ false
-and_no true = refl
-and_no false = refl
-
--- where row p has its word and no row of a block of the links names it, as n says, the rows there lack nothing
-pub block_calm : (c p w from to low n : ℕ) (l : List ℕ) → length l ≡ row_numbers * c → block ≤ c → from ≤ to → to ≤ c → to ≤ from + block → low ≡ to - block
-    → Has c p l → n ≡ times p (mid_of (links c + low) (links c + low + block - (links c + low)) l) → n ≡ 0 → l ≡ filled_from c p w from (to - from) l
-block_calm c p w from to low n l long g o b t e h f z = filled_calm c p w from l (to - from) calm
+-- where row p has its word and no row of a block of the links, x, names it, as n says, the rows there lack nothing
+pub block_calm : (c p w from to low n : ℕ) (l x : List ℕ) → length l ≡ row_numbers * c → x ≡ column (links c) c l → from ≤ to → block ≤ to → to ≤ c → to ≤ from + block → low ≡ to - block
+    → Has c p l → n ≡ times p (mid_of low (low + block - low) x) → n ≡ 0 → l ≡ filled_from c p w from (to - from) l
+block_calm c p w from to low n l x long ex o g b t e h f z = filled_calm c p w from l (to - from) calm
   where
     calm : Calm c p l from (to - from)
     calm k q =
+        let m = column_long (links c) c l x (omega arith) ex in
+        let s = column_at (links c) c l x (omega arith) ex (from + k) (omega arith) in
         ⊎_elim
         (λ (e : from + k ≡ p). subst (λ (z : ℕ). lacks p z (row_at c l z) ≡ false) (sym e) h)
         (λ (d : from + k ≡ p → ⊥).
-        let x : eqb (from + k) p ≡ false = ne_eqb (from + k) p d in
+        let v : eqb (from + k) p ≡ false = ne_eqb (from + k) p d in
         let y : eqb (get_or l (links c + (from + k)) 0) p ≡ false =
         ne_eqb (get_or l (links c + (from + k)) 0) p
-        (part_free (links c + low) (links c + low + block) l (omega arith) p (links c + (from + k)) n f z (omega arith) (omega arith)) in
-        rw (x, y) (and_no (eqb (get_or l (kinds c + (from + k)) 0) waiting_kind)))
+        (λ j. part_free low (low + block) x (omega arith) p (from + k) n f z (omega arith) (omega arith) (s ∙ j)) in
+        simp (v, y, and-false))
         (same_or_not (from + k) p)
 
 -- a row that has got its word lacks nothing

@@ -9,6 +9,7 @@ ghost use Rattle.model.specs.Cycle.{lacks, with_word, filled_row, filled_below};
 ghost use Rattle.filling.specs.Filling.{Has, filled_from};
 
 use model::Row;
+use table::Table;
 
 // Row p, or a row that waits on it, where it still lacks its word. Most rows wait for none, so that is looked at first.
 fn lacks(r: Row, i: u32, p: u32) -> bool
@@ -35,7 +36,7 @@ fn fill_row(rows: &mut [u32], c: usize, i: usize, p: u32, w: u32)
     requires { (length rows.old ≡ row_numbers * c) × (i < c) × (c ≤ 4096) }
     ensures { rows.new ≡ filled_row c p w i rows.old }
 {
-    let r = table::row_at(rows, c, i);
+    let r = Table::new(rows, c).row(i);
     if lacks(r, i as u32, p) {
         table::put_row(rows, c, i, with_word(r, w));
     }
@@ -46,22 +47,20 @@ fn fill_few(rows: &mut [u32], c: usize, from: usize, to: usize, p: u32, w: u32)
     requires { (length rows.old ≡ row_numbers * c) × (from ≤ to) × (to ≤ c) × (c ≤ 4096) }
     ensures { rows.new ≡ filled_from c p w from (to - from) rows.old }
 {
-    let mut i = from;
-    while i < to {
+    for i in from..to {
         fill_row(rows, c, i, p, w);
-        i = i + 1;
     }
 }
 
 // The rows from one place up to another that is at most a block on, where row p has its word:
 // row by row only where one of the block names row p.
 fn fill_block(rows: &mut [u32], c: usize, from: usize, to: usize, p: u32, w: u32)
-    requires { (length rows.old ≡ row_numbers * c) × (block ≤ c) × (from ≤ to) × (to ≤ c) × (to ≤ from + block)
+    requires { (length rows.old ≡ row_numbers * c) × (from ≤ to) × (block ≤ to) × (to ≤ c) × (to ≤ from + block)
         × (c ≤ 4096) × Has c p rows.old }
     ensures { rows.new ≡ filled_from c p w from (to - from) rows.old }
 {
-    let at = Row::LINKS * c + flat::block_of(to);
-    if flat::times(&rows[at..at + flat::BLOCK], p) == 0 {
+    let at = to - flat::BLOCK;
+    if flat::times(&Table::new(rows, c).links()[at..at + flat::BLOCK], p) == 0 {
         return;
     }
     fill_few(rows, c, from, to, p, w);
@@ -70,7 +69,7 @@ fn fill_block(rows: &mut [u32], c: usize, from: usize, to: usize, p: u32, w: u32
 // Where the block from place i on ends: at c, if that comes first.
 fn block_above(i: usize, c: usize) -> usize
     requires { i < c }
-    ensures { (i < result) × (result ≤ i + block) × (result ≤ c) }
+    ensures { (i < result) × (result ≤ i + block) × (result ≤ c) × (block ≤ c → block ≤ result) }
 {
     if c - i <= flat::BLOCK {
         return c;

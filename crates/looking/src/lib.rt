@@ -10,6 +10,15 @@ use map::Address;
 use model::{Entry, Plan, Row};
 use port::{Delivery, Operation};
 use setup::Setup;
+use table::Table;
+
+// The rows as a table of C.
+fn table_of(s: Setup, rows: &[u32]) -> Table<'_>
+    requires { Ranges s × (length rows.now ≡ (lengths_of s).rows) }
+    ensures { (result.rows.now ≡ rows.now) × (result.c ≡ s.c) }
+{
+    Table::new(rows, s.c as usize)
+}
 
 // Looks at the row filled a delay ago.
 pub fn deliver(s: Setup, position: usize, rows: &[u32]) -> Delivery
@@ -17,7 +26,7 @@ pub fn deliver(s: Setup, position: usize, rows: &[u32]) -> Delivery
     ensures { result ≡ delivered s position rows.now }
 {
     let at = rings::back(s.c as usize, position, s.delta as usize);
-    plan::leave(table::row_at(rows, s.c as usize, at))
+    plan::leave(table_of(s, rows).row(at))
 }
 
 // What the row filled C cycles ago places as it is given up: merging, a write that no newer live write replaces.
@@ -28,15 +37,12 @@ pub fn give_up(s: Setup, position: usize, rows: &[u32]) -> Option<Entry>
     if s.mode != Setup::MERGING {
         return None;
     }
-    let r = table::row_at(rows, s.c as usize, position);
+    let table = table_of(s, rows);
+    let r = table.row(position);
     if r.kind != Row::WRITE {
         return None;
     }
-    plan::give_up_write(
-        s,
-        r,
-        lookup::newest_write(rows, s.c as usize, position, r.address),
-    )
+    plan::give_up_write(s, r, lookup::newest_write(table, position, r.address))
 }
 
 // A merging read: it merges with the newest live row of its address, or places an entry.
@@ -44,10 +50,11 @@ fn merge_read(s: Setup, position: u32, a: Address, rows: &[u32]) -> Plan
     requires { Ranges s × (length rows.now ≡ (lengths_of s).rows) × (position < s.c) }
     ensures { result ≡ merged_plan s position a (newest_live s position a rows.now) rows.now }
 {
-    let Some(i) = lookup::newest_live(rows, s.c as usize, position as usize, a) else {
+    let table = table_of(s, rows);
+    let Some(i) = lookup::newest_live(table, position as usize, a) else {
         return plan::plan_read(s, position, a);
     };
-    plan::plan_merged(a, table::row_at(rows, s.c as usize, i))
+    plan::plan_merged(a, table.row(i))
 }
 
 // What the operation is to do.

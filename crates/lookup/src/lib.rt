@@ -2,118 +2,96 @@
 // A look at a whole block of the addresses spares the rows of one that does not have the address.
 #![tactic(auto)]
 
-ghost use Rattle.std.specs.Prelude.{◌≡◌, false, ◌+◌, ◌-◌, ◌*◌, ◌≤◌, ◌<◌, length};
+ghost use Rattle.std.specs.Prelude.{◌≡◌, ℕ, Bool, false, not, eqb, length, ◌*◌, ◌+◌, ◌-◌, ◌≤◌, ◌<◌};
 ghost use Rattle.flat.specs.Flat.{block};
-ghost use Rattle.model.specs.Lent.{row_numbers, row_at};
+ghost use Rattle.model.specs.Lent.{row_numbers, row_at, empty_kind, write_kind};
 ghost use Rattle.model.specs.Cycle.{scan, is_of, writes};
 ghost use Rattle.model.specs.Range.{Within};
-ghost use Rattle.lookup.specs.Lookup.{wanted, Alone, Nearby};
+ghost use Rattle.lookup.specs.Lookup.{wanted, last_wanted, Alone, Nearby};
 
 use map::Address;
 use model::Row;
+use table::Table;
 
-// A row of this address: a write where only those are wanted, else any that is not empty.
-// Whole addresses are compared, and first: most rows differ there.
-fn wanted(rows: &[u32], c: usize, i: usize, a: Address, written: bool) -> bool
-    requires { (length rows.now ≡ row_numbers * c) × (i < c) }
-    ensures { result ≡ wanted written a (row_at c rows.now i) }
-{
-    if rows[Row::ADDRESSES * c + i] == a.0 {
-        let kind = rows[Row::KINDS * c + i];
-        if written {
-            kind == Row::WRITE
-        } else {
-            kind != Row::EMPTY
-        }
-    } else {
-        false
+// The kinds of row that a lookup asks for.
+trait Kinds {
+    ghost includes: { ℕ → Bool };
+
+    fn includes(kind: u32) -> bool
+        ensures { result ≡ includes kind };
+}
+
+// Every row that is not empty.
+struct Live;
+
+impl Kinds for Live {
+    ghost includes = { λ kind. not (eqb kind empty_kind) };
+
+    fn includes(kind: u32) -> bool {
+        kind != Row::EMPTY
     }
 }
 
-// The last such row from one place up to another, row by row.
-fn scan_few(
-    rows: &[u32],
-    c: usize,
-    from: usize,
-    to: usize,
-    a: Address,
-    written: bool,
-) -> Option<usize>
-    requires { (length rows.now ≡ row_numbers * c) × (from ≤ to) × (to ≤ c) }
-    ensures { (result ≡ scan (wanted written a) c rows.now (to - from) to) × Within to result }
+struct Writes;
+
+impl Kinds for Writes {
+    ghost includes = { λ kind. eqb kind write_kind };
+
+    fn includes(kind: u32) -> bool {
+        kind == Row::WRITE
+    }
+}
+
+// A row of this address, of a kind that is asked for. Whole addresses are compared, and first: most rows differ there.
+fn wanted<K: Kinds>(t: Table, i: usize, a: Address) -> bool
+    requires { i < t.c }
+    ensures { result ≡ wanted K.includes a (row_at t.entry.c t.entry.rows.now i) }
 {
-    let mut i = to;
-    while from < i {
-        i = i - 1;
-        if wanted(rows, c, i, a, written) {
+    (t.addresses()[i] == a.0) && K::includes(t.kinds()[i])
+}
+
+// The last such row from one place up to another, row by row.
+fn scan_few<K: Kinds>(t: Table, from: usize, to: usize, a: Address) -> Option<usize>
+    requires { (from ≤ to) × (to ≤ t.c) }
+    ensures { result ≡ last_wanted K.includes a t.entry from to }
+{
+    for i in (from..to).rev() {
+        if wanted::<K>(t, i, a) {
             return Some(i);
         }
     }
     None
 }
 
-// The last such row of a block: row by row only where one of them has the address.
-fn scan_block(
-    rows: &[u32],
-    c: usize,
-    from: usize,
-    to: usize,
-    a: Address,
-    written: bool,
-) -> Option<usize>
-    requires { (length rows.now ≡ row_numbers * c) × (to ≡ from + block) × (to ≤ c) }
-    ensures { (result ≡ scan (wanted written a) c rows.now (to - from) to) × Within to result }
+// The last such row from one place up to another of the block from place `low` on: row by row only where one of the block has
+// the address.
+fn scan_block<K: Kinds>(t: Table, low: usize, from: usize, to: usize, a: Address) -> Option<usize>
+    requires { (low ≤ from) × (from ≤ to) × (to ≤ low + block) × (low + block ≤ t.c) }
+    ensures { result ≡ last_wanted K.includes a t.entry from to }
 {
-    let at = Row::ADDRESSES * c + from;
-    if flat::times(&rows[at..at + flat::BLOCK], a.0) == 0 {
+    if flat::times(&t.addresses()[low..low + flat::BLOCK], a.0) == 0 {
         return None;
     }
-    scan_few(rows, c, from, to, a, written)
-}
-
-// The last such row from one place up to another, fewer than a block on: row by row only where a block that they are in has the address.
-fn scan_rest(
-    rows: &[u32],
-    c: usize,
-    from: usize,
-    to: usize,
-    a: Address,
-    written: bool,
-) -> Option<usize>
-    requires { (length rows.now ≡ row_numbers * c) × (block ≤ c) × (from ≤ to) × (to ≤ c) × (to ≤ from + block) }
-    ensures { (result ≡ scan (wanted written a) c rows.now (to - from) to) × Within to result }
-{
-    if to <= from {
-        return None;
-    }
-    let at = Row::ADDRESSES * c + flat::block_of(to);
-    if flat::times(&rows[at..at + flat::BLOCK], a.0) == 0 {
-        return None;
-    }
-    scan_few(rows, c, from, to, a, written)
+    scan_few::<K>(t, from, to, a)
 }
 
 // The last such row from one place up to another: straight down by blocks, so that no step has to look for the end of the table.
-fn scan_part(
-    rows: &[u32],
-    c: usize,
-    from: usize,
-    to: usize,
-    a: Address,
-    written: bool,
-) -> Option<usize>
-    requires { (length rows.now ≡ row_numbers * c) × (block ≤ c) × (from ≤ to) × (to ≤ c) }
-    ensures { (result ≡ scan (wanted written a) c rows.now (to - from) to) × Within to result }
+fn scan_part<K: Kinds>(t: Table, from: usize, to: usize, a: Address) -> Option<usize>
+    requires { (block ≤ t.c) × (from ≤ to) × (to ≤ t.c) }
+    ensures { result ≡ last_wanted K.includes a t.entry from to }
 {
     let mut i = to;
     while flat::BLOCK <= i - from {
-        let r = scan_block(rows, c, i - flat::BLOCK, i, a, written);
-        if let Some(j) = r {
+        let low = i - flat::BLOCK;
+        if let Some(j) = scan_block::<K>(t, low, low, i, a) {
             return Some(j);
         }
-        i = i - flat::BLOCK;
+        i = low;
     }
-    scan_rest(rows, c, from, i, a, written)
+    if i <= from {
+        return None;
+    }
+    scan_block::<K>(t, flat::block_of(i), from, i, a)
 }
 
 // Where a block with the row at the position begins.
@@ -121,103 +99,99 @@ fn block_with(position: usize, c: usize) -> usize
     requires { (block ≤ c) × (position < c) }
     ensures { (result ≤ position) × (position < result + block) × (result + block ≤ c) }
 {
-    let low = position - position % flat::BLOCK;
-    if c - low < flat::BLOCK {
-        return c - flat::BLOCK;
-    }
-    low
+    (position - position % flat::BLOCK).min(c - flat::BLOCK)
 }
 
 // Whether a row of the block from place `low` on, other than the row at the position, has the address.
-fn near(rows: &[u32], c: usize, position: usize, low: usize, a: Address) -> bool
-    requires { (length rows.now ≡ row_numbers * c) × (low ≤ position) × (position < low + block)
-        × (low + block ≤ c) }
-    ensures { result ≡ false → Alone c position low a.0 rows.now }
+fn near(t: Table, position: usize, low: usize, a: Address) -> bool
+    requires { (low ≤ position) × (position < low + block) × (low + block ≤ t.c) }
+    ensures { result ≡ false → Alone t.entry position low a }
 {
-    let at = Row::ADDRESSES * c + low;
-    let hits = flat::times(&rows[at..at + flat::BLOCK], a.0);
-    if rows[Row::ADDRESSES * c + position] == a.0 {
+    let addresses = t.addresses();
+    let hits = flat::times(&addresses[low..low + flat::BLOCK], a.0);
+    if addresses[position] == a.0 {
         return 1 < hits;
     }
     0 < hits
 }
 
 // The last such row below the position: row by row in its own block only where that is known to have one.
-fn scan_below(
-    rows: &[u32],
-    c: usize,
+fn scan_below<K: Kinds>(
+    t: Table,
     position: usize,
     low: usize,
     there: bool,
     a: Address,
-    written: bool,
 ) -> Option<usize>
-    requires { Nearby c position low a.0 rows.now there }
-    ensures { (result ≡ scan (wanted written a) c rows.now (position - 0) position) × Within position result }
+    requires { Nearby t position low a there }
+    ensures { result ≡ last_wanted K.includes a t.entry 0 position }
 {
     if there {
-        let Some(j) = scan_few(rows, c, low, position, a, written) else {
-            return scan_part(rows, c, 0, low, a, written);
-        };
-        return Some(j);
+        if let Some(i) = scan_few::<K>(t, low, position, a) {
+            return Some(i);
+        }
     }
-    scan_part(rows, c, 0, low, a, written)
+    scan_part::<K>(t, 0, low, a)
 }
 
 // The last such row above the position: its own block comes last.
-fn scan_above(
-    rows: &[u32],
-    c: usize,
+fn scan_above<K: Kinds>(
+    t: Table,
     position: usize,
     low: usize,
     there: bool,
     a: Address,
-    written: bool,
 ) -> Option<usize>
-    requires { Nearby c position low a.0 rows.now there }
-    ensures { (result ≡ scan (wanted written a) c rows.now (c - (position + 1)) c) × Within c result }
+    requires { Nearby t position low a there }
+    ensures { result ≡ last_wanted K.includes a t.entry (position + 1) t.entry.c }
 {
     let high = low + flat::BLOCK;
-    let Some(j) = scan_part(rows, c, high, c, a, written) else {
-        if there {
-            return scan_few(rows, c, position + 1, high, a, written);
-        }
-        return None;
-    };
-    Some(j)
+    if let Some(i) = scan_part::<K>(t, high, t.c, a) {
+        return Some(i);
+    }
+    if there {
+        return scan_few::<K>(t, position + 1, high, a);
+    }
+    None
 }
 
 // The first such row before the position, going round: below it, else above it; a table that is shorter than a block row by row.
-fn scan(rows: &[u32], c: usize, position: usize, a: Address, written: bool) -> Option<usize>
-    requires { (length rows.now ≡ row_numbers * c) × (position < c) }
-    ensures { (result ≡ scan (wanted written a) c rows.now (c - 1) position) × Within c result }
+fn scan<K: Kinds>(t: Table, position: usize, a: Address) -> Option<usize>
+    requires { position < t.c }
+    ensures { result ≡ scan (wanted K.includes a) t.entry.c t.entry.rows.now (t.entry.c - 1) position }
 {
-    if c < flat::BLOCK {
-        let Some(i) = scan_few(rows, c, 0, position, a, written) else {
-            return scan_few(rows, c, position + 1, c, a, written);
-        };
-        return Some(i);
+    if t.c < flat::BLOCK {
+        return scan_few::<K>(t, 0, position, a).or_else(|| scan_few::<K>(t, position + 1, t.c, a));
     }
-    let low = block_with(position, c);
-    let there = near(rows, c, position, low, a);
-    let Some(i) = scan_below(rows, c, position, low, there, a, written) else {
-        return scan_above(rows, c, position, low, there, a, written);
-    };
-    Some(i)
+    let low = block_with(position, t.c);
+    let there = near(t, position, low, a);
+    scan_below::<K>(t, position, low, there, a).or_else(|| scan_above::<K>(
+        t, position, low, there, a,
+    ))
+}
+
+// The same, apart from its callers: a cycle that looks nothing up does not pay for it. The lent rows are passed in registers, a
+// table would be passed in memory.
+#[inline(never)]
+fn scan_apart<K: Kinds>(rows: &[u32], c: usize, position: usize, a: Address) -> Option<usize>
+    requires { (length rows.now ≡ row_numbers * c) × (c ≤ 4096) × (position < c) }
+    ensures { result ≡ scan (wanted K.includes a) c rows.now (c - 1) position }
+{
+    scan::<K>(Table::new(rows, c), position, a)
 }
 
 // The newest live row of this address, as the row at the position arrives.
-pub fn newest_live(rows: &[u32], c: usize, position: usize, a: Address) -> Option<usize>
-    requires { (length rows.now ≡ row_numbers * c) × (position < c) }
-    ensures { (result ≡ scan (is_of a) c rows.now (c - 1) position) × Within c result }
+pub fn newest_live(t: Table, position: usize, a: Address) -> Option<usize>
+    requires { position < t.c }
+    ensures { (result ≡ scan (is_of a) t.entry.c t.entry.rows.now (t.entry.c - 1) position) × Within t.entry.c result }
 {
-    scan(rows, c, position, a, false)
+    scan_apart::<Live>(t.rows, t.c, position, a)
 }
 
 // The newest live write to this address, as the row at the position retires.
-pub fn newest_write(rows: &[u32], c: usize, position: usize, a: Address) -> Option<usize>
-    requires { (length rows.now ≡ row_numbers * c) × (position < c) }
-    ensures { (result ≡ scan (writes a) c rows.now (c - 1) position) × Within c result }
+pub fn newest_write(t: Table, position: usize, a: Address) -> Option<usize>
+    requires { position < t.c }
+    ensures { (result ≡ scan (writes a) t.entry.c t.entry.rows.now (t.entry.c - 1) position) × Within t.entry.c result }
 {
-    scan(rows, c, position, a, true)
+    scan_apart::<Writes>(t.rows, t.c, position, a)
 }

@@ -12,6 +12,7 @@ use answers::Refusal;
 use model::{Cycled, Entry, Head, Lengths, Row, State, Waiting};
 use port::{Delivery, Operation, Reply};
 use setup::Setup;
+use table::Table;
 
 // How many numbers each lent slice must have.
 pub fn lengths(s: Setup) -> Lengths
@@ -67,8 +68,8 @@ pub fn numbers_ok(s: Setup, t: State, rows: &[u32], entries: &[u32], heads: &[u3
 {
     let turn = (t.turn < s.m as u32) & (t.position < s.c as u32);
     let n = s.words();
-    let table = table::rows_ok(rows, s.c as usize, n);
-    turn & table & entries::buffers_ok(s, n, entries, heads)
+    let rows_ok = Table::new(rows, s.c as usize).rows_ok(n);
+    turn & rows_ok & entries::buffers_ok(s, n, entries, heads)
 }
 
 // 1, 2 and 3: besides, every number in the range its meaning allows.

@@ -1,47 +1,52 @@
--- The range check: by columns, and row by row. Assumes nothing.
+-- The table's columns, and the range check: by columns, and row by row. Assumes nothing.
 use Prim.Native.Nat.{ℕ, ◌+◌, ◌-◌, ◌*◌, ◌≤◌, ◌<◌}
 use native.Mathlib.Omega.{arith}
 use mathlib.Core.Path.{◌≡◌, refl, sym, ◌∙◌}
-use mathlib.Core.Bool.{Bool, true, false, not, ◌&&◌, ◌||◌}
+use mathlib.Core.Bool.{Bool, true, false}
 use mathlib.Core.List.{List}
-use lib.Dec.{leb, ltb, eqb}
 use lib.ListN.{get_or, length}
-use borrow.Author.Tests.{le-leb, lt-ltb}
-use borrow.Rule.Slice.PartMut.{mid_of}
+use lib.Seq.{get_or-take, get_or-drop}
+use borrow.Rule.Slice.PartMut.{mid_len}
 use Rattle.flat.specs.Flat.{all_below}
-use Rattle.flat.proofs.Parts.{part_below}
+use Rattle.flat.proofs.Flat.{below_at}
 use Rattle.flat.proofs.Below.{below_more, below_out, below_all}
-use Rattle.model.specs.Lent.{row_numbers, kinds, addresses, links, row_at, empty_kind, waiting_kind}
+use Rattle.model.specs.Lent.{row_numbers, kinds, addresses, links, row_at, waiting_kind}
 use Rattle.model.specs.Range.{row_ok, rows_ok}
 use Rattle.model.specs.declared.Row.{Row}
-use Rattle.model.proofs.Range.{rows_all}
-use Rattle.table.specs.Table.{InRange}
+use Rattle.model.proofs.Range.{row_ok_lem, rows_all}
+use Rattle.table.specs.Table.{column, InRange}
 
--- the three columns, each as its look told
-pub in_range_lem : (n c : ℕ) (l : List ℕ) (t u v : Bool) → length l ≡ row_numbers * c
-    → t ≡ all_below (waiting_kind + 1) (mid_of (kinds c) (kinds c + c - kinds c) l) → t ≡ true
-    → u ≡ all_below n (mid_of (addresses c) (addresses c + c - addresses c) l) → u ≡ true
-    → v ≡ all_below c (mid_of (links c) (links c + c - links c) l) → v ≡ true → InRange n c l
-in_range_lem n c l t u v long et ht eu hu ev hv =
-    record {
-      kinds_in = λ i h. let x = part_below (kinds c) (kinds c + c) l (omega arith) (waiting_kind + 1) (kinds c + i) (sym et ∙ ht) (omega arith) (omega arith) in omega arith;
-      addresses_in = λ i h. part_below (addresses c) (addresses c + c) l (omega arith) n (addresses c + i) (sym eu ∙ hu) (omega arith) (omega arith);
-      links_in = λ i h. part_below (links c) (links c + c) l (omega arith) c (links c + i) (sym ev ∙ hv) (omega arith) (omega arith);
-    }
+-- x is the column from place `at` on
+module _ (at c : ℕ) (l x : List ℕ) (o : at + c ≤ length l) (h : x ≡ column at c l) where
+  pub column_at : (i : ℕ) → i < c → get_or x i 0 ≡ get_or l (at + i) 0
+  column_at i b = let z : i < at + c - at = omega arith in rw h (simp (get_or-take, get_or-drop))
 
-tests : (x y : Bool) → true && (x || true) && (y || true) ≡ true
-tests true true = refl
-tests true false = refl
-tests false true = refl
-tests false false = refl
+  pub column_long : length x ≡ c
+  column_long = let n : length (column at c l) ≡ at + c - at = mid_len at (at + c) l o in rw h (omega arith)
+
+  -- its numbers are below a bound, where t is how the look at it came out
+  column_below : (bound : ℕ) (t : Bool) → t ≡ all_below bound x → t ≡ true → (i : ℕ) → i < c → get_or l (at + i) 0 < bound
+  column_below bound t e y i b =
+      let n = column_long in
+      let z = column_at i b in
+      let f = below_at bound x (sym e ∙ y) i (omega arith) in
+      omega arith
 
 module _ (n c : ℕ) (l : List ℕ) where
+  -- the three columns
+  pub in_range_lem : (x y z : List ℕ) (t u v : Bool) → length l ≡ row_numbers * c
+      → x ≡ column (kinds c) c l → t ≡ all_below (waiting_kind + 1) x → t ≡ true
+      → y ≡ column (addresses c) c l → u ≡ all_below n y → u ≡ true
+      → z ≡ column (links c) c l → v ≡ all_below c z → v ≡ true → InRange n c l
+  in_range_lem x y z t u v long ex ht et ey hu eu ez hv ev =
+      record {
+        kinds_in = λ i h. let b = column_below (kinds c) c l x (omega arith) ex (waiting_kind + 1) t ht et i h in omega arith;
+        addresses_in = column_below (addresses c) c l y (omega arith) ey n u hu eu;
+        links_in = column_below (links c) c l z (omega arith) ez c v hv ev;
+      }
+
   pub range_ok : InRange n c l → true ≡ rows_ok n c l c
-  range_ok g = sym (rows_all n c l c (λ i h.
-      let x : leb (get_or l (kinds c + i) 0) waiting_kind ≡ true = le-leb _ _ (g.kinds_in i h) in
-      let y : ltb (get_or l (addresses c + i) 0) n ≡ true = lt-ltb _ _ (g.addresses_in i h) in
-      let z : ltb (get_or l (links c + i) 0) c ≡ true = lt-ltb _ _ (g.links_in i h) in
-      rw (x, y, z) (tests (eqb (get_or l (kinds c + i) 0) empty_kind) (not (eqb (get_or l (kinds c + i) 0) waiting_kind)))))
+  range_ok g = sym (rows_all n c l c (λ i h. row_ok_lem n c (row_at c l i) (g.kinds_in i h) (λ _. g.addresses_in i h) (λ _. g.links_in i h)))
 
   -- the rows below i. Row i is r, and t says whether it is in range
   pub rows_more : (i : ℕ) (r : Row) (t : Bool) → rows_ok n c l i ≡ true → r ≡ row_at c l i → t ≡ row_ok n c r → t ≡ true → rows_ok n c l (i + 1) ≡ true

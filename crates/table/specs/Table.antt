@@ -1,6 +1,10 @@
--- What the range check of the table knows of its columns.
-use Rattle.std.specs.Prelude.{ℕ, ◌+◌, ◌≤◌, ◌<◌, List, get_or}
+-- The table's columns, and what the range check knows of them.
+use Rattle.std.specs.Prelude.{ℕ, ◌+◌, ◌≤◌, ◌<◌, List, get_or, slice_range}
 use Rattle.model.specs.Lent.{kinds, addresses, links, waiting_kind}
+
+-- the c numbers from place `at` on
+abbrev pub column : ℕ → ℕ → List ℕ → List ℕ
+column at c l = slice_range l at (at + c)
 
 -- the numbers of every row are in range whatever its kind is
 pub record InRange (n c : ℕ) (l : List ℕ) : Type 0 where
