@@ -16,7 +16,7 @@ module _ {A B : Type 0} {x y : A} {u v : B} {z : A × B} (p : (x, u) ≡ z) (q :
 pub exported : Exported
 exported =
     record {
-      checked = λ _ _ _ _ _ _ p q. (p.checked ∙⁻¹ q.checked, refl);
+      checked = λ _ _ _ _ _ _ p q. (p.0 ∙⁻¹ q.0, refl);
       operation_from = operation_from-one;
       read_operation = read_operation_one;
       write_operation = write_operation_one;
