@@ -5,6 +5,7 @@ ghost use Rattle.std.specs.Prelude.{◌≡◌};
 ghost use Rattle.model.specs.Lent.{lent};
 ghost use Rattle.model.specs.Calls.{fresh_of, cycle_of, waiting_of};
 
+use answers::Refusal;
 use model::{Cycled, Started, State, Waiting};
 use port::Operation;
 use setup::Setup;
@@ -61,8 +62,9 @@ pub fn cycle(
     }
 }
 
-// How many entries wait at one bank.
-#[tactic(auto, unfolding(model::specs::Calls::waiting_in))]
+// How many entries wait at one bank. Not by `standing`: as long as `cycle` alone calls that, it becomes a part of `cycle`, and no
+// setup is copied there.
+#[tactic(auto, unfolding(model::specs::Calls::standing_in, model::specs::Calls::waiting_in))]
 pub fn waiting(
     setup: Setup,
     t: State,
@@ -75,11 +77,19 @@ pub fn waiting(
     ensures { result
         ≡ waiting_of setup t bank (lent memory.now rows.now entries.now heads.now) }
 {
-    match refusals::standing(setup, t, memory, rows, entries, heads) {
+    match refusals::exact(setup, memory, rows, entries, heads) {
         Err(r) => Waiting {
             answer: r.number(),
             count: 0,
         },
-        Ok(s) => refusals::tell(s, bank, heads),
+        Ok(s) => {
+            if refusals::numbers_ok(s, t, rows, entries, heads) {
+                return refusals::tell(s, bank, heads);
+            }
+            Waiting {
+                answer: Refusal::BadState.number(),
+                count: 0,
+            }
+        }
     }
 }
