@@ -1,7 +1,7 @@
 // A recorded sequence run through the controller: what `cyclerun` prints for it.
 #![tactic(auto)]
 
-ghost use Rattle.std.specs.Prelude.{◌≡◌, ◌+◌, ◌*◌, ◌^◌, ◌≤◌, ◌<◌, min, length};
+ghost use Rattle.std.specs.Prelude.{◌≡◌, ◌+◌, ◌*◌, ◌^◌, ◌≤◌, ◌<◌, length};
 ghost use Rattle.answers.specs.Answers.{number};
 ghost use Rattle.setup.specs.Setup.{Sizes};
 ghost use Rattle.model.specs.Lent.{lent};
@@ -154,13 +154,6 @@ fn one(
     print(r, cycled.state, reply.answer, delivery, true, out)
 }
 
-// The lesser of two numbers.
-fn least(a: usize, b: usize) -> usize
-    ensures { result ≡ min a b }
-{
-    if a < b { a } else { b }
-}
-
 // Runs the records of a part of the input, and puts their lines at the start of the room.
 pub fn part(
     s: Setup,
@@ -179,19 +172,14 @@ pub fn part(
         × (result.end ≤ length out.new) }
 {
     let count = (input.len() + (records::OPERATION_BYTES - 1)) / records::OPERATION_BYTES;
-    let state = run.state;
-    let mut r = Run {
-        state,
-        number: run.number,
-        on: run.on,
-        end: 0,
-    };
-    let mut i: usize = 0;
-    while i < count && r.on {
+    let mut r = Run { end: 0, ..run };
+    for i in 0..count {
+        if !r.on {
+            break;
+        }
         let from = records::OPERATION_BYTES * i;
-        let to = least(from + records::OPERATION_BYTES, input.len());
+        let to = (from + records::OPERATION_BYTES).min(input.len());
         r = one(s, r, &input[from..to], memory, rows, entries, heads, out);
-        i += 1;
     }
     r
 }
