@@ -1,7 +1,7 @@
 // A recorded sequence run through the controller: what `cyclerun` prints for it.
 #![tactic(auto)]
 
-ghost use Rattle.std.specs.Prelude.{◌≡◌, ◌+◌, ◌*◌, ◌^◌, ◌≤◌, ◌<◌, min, length};
+ghost use Rattle.std.specs.Prelude.{◌≡◌, ◌+◌, ◌*◌, ◌^◌, ◌≤◌, ◌<◌, length};
 ghost use Rattle.answers.specs.Answers.{number};
 ghost use Rattle.setup.specs.Setup.{Sizes};
 ghost use Rattle.model.specs.Lent.{lent};
@@ -10,8 +10,7 @@ ghost use Rattle.listing.specs.Listing.{line_most};
 ghost use Rattle.replay.specs.Replay.{room_for, opening_of, setup_line, records_in, with_record, listed, listed_from, put_at, put_line, zeros_for, Opened, begun};
 
 use answers::Refusal;
-use model::{Entry, Head, Row, State};
-use port::Delivery;
+use model::{Cycled, Entry, Head, Row, State};
 use setup::Setup;
 
 // A run between two records.
@@ -91,32 +90,26 @@ pub fn begin(s: Setup, memory: &[u32], rows: &mut [u32], entries: &[u32], heads:
     ensures { (result, lent memory.now rows.new entries.now heads.new)
         ≡ begun s }
 {
-    let before = State {
-        stamp: 0,
-        turn: 0,
-        position: 0,
-        stopped: false,
-    };
-    let started = controller::fresh_start(s, before, memory, rows, entries, heads);
-    let state = started.state;
+    let started = controller::fresh_start(s, refusals::first_state(), memory, rows, entries, heads);
     Run {
-        state,
+        state: started.state,
         number: 0,
         on: true,
         end: 0,
     }
 }
 
-// Puts a record's line behind the text, and counts the record.
-fn print(r: Run, state: State, answer: u32, d: Delivery, on: bool, out: &mut [u8]) -> Run
+// Puts the line of a record's cycle behind the text, and counts the record.
+fn print(r: Run, cycled: Cycled, on: bool, out: &mut [u8]) -> Run
     requires { (r.end + line_most ≤ length out.old) × (r.number + 1 < 2 ^ 64) }
     ensures { ((result, out.new)
-        ≡ put_line out.old r state answer d on)
+        ≡ put_line out.old r cycled.state cycled.reply.answer cycled.reply.delivery on)
         × (result.end ≤ r.end + line_most) }
 {
-    let end = listing::put_line(out, r.end, r.number, answer, d);
+    let reply = cycled.reply;
+    let end = listing::put_line(out, r.end, r.number, reply.answer, reply.delivery);
     Run {
-        state,
+        state: cycled.state,
         number: r.number + 1,
         on,
         end,
@@ -140,25 +133,12 @@ fn one(
         ≡ put_at out.old r.end (with_record s (operation_of bytes.now) (listed_from r (lent memory.old rows.old entries.old heads.old))))
         × (result.end ≤ r.end + line_most) }
 {
-    let state = r.state;
     let op = match records::read_operation(bytes) {
         Ok(op) => op,
-        Err(refusal) => {
-            let answer = refusal.number();
-            return print(r, state, answer, Delivery::None, false, out);
-        }
+        Err(refusal) => return print(r, refusals::refuse(refusal, r.state), false, out),
     };
-    let cycled = controller::cycle(s, state, op, memory, rows, entries, heads);
-    let reply = cycled.reply;
-    let delivery = reply.delivery;
-    print(r, cycled.state, reply.answer, delivery, true, out)
-}
-
-// The lesser of two numbers.
-fn least(a: usize, b: usize) -> usize
-    ensures { result ≡ min a b }
-{
-    if a < b { a } else { b }
+    let cycled = controller::cycle(s, r.state, op, memory, rows, entries, heads);
+    print(r, cycled, true, out)
 }
 
 // Runs the records of a part of the input, and puts their lines at the start of the room.
@@ -179,19 +159,14 @@ pub fn part(
         × (result.end ≤ length out.new) }
 {
     let count = (input.len() + (records::OPERATION_BYTES - 1)) / records::OPERATION_BYTES;
-    let state = run.state;
-    let mut r = Run {
-        state,
-        number: run.number,
-        on: run.on,
-        end: 0,
-    };
-    let mut i: usize = 0;
-    while i < count && r.on {
+    let mut r = Run { end: 0, ..run };
+    for i in 0..count {
+        if !r.on {
+            break;
+        }
         let from = records::OPERATION_BYTES * i;
-        let to = least(from + records::OPERATION_BYTES, input.len());
+        let to = (from + records::OPERATION_BYTES).min(input.len());
         r = one(s, r, &input[from..to], memory, rows, entries, heads, out);
-        i += 1;
     }
     r
 }
