@@ -54,9 +54,9 @@ pub fn cycle(
         ≡ cycle_of setup t op (lent memory.old rows.old entries.old heads.old) }
 {
     match refusals::standing(setup, t, memory, rows, entries, heads) {
-        Err(r) => refusals::refuse(r, t),
+        Err(r) => refusals::refuse(r.number(), t),
         Ok(s) => match refusals::offered(s, t, op) {
-            Err(r) => refusals::refuse(r, t),
+            Err(r) => refusals::refuse(r.number(), t),
             Ok(()) => passage::pass(s, t, op, memory, rows, entries, heads),
         },
     }

@@ -174,7 +174,7 @@ fn scan<K: Kinds>(t: Table, position: usize, a: Address) -> Option<usize>
 // table would be passed in memory.
 #[inline(never)]
 fn scan_apart<K: Kinds>(rows: &[u32], c: usize, position: usize, a: Address) -> Option<usize>
-    requires { (length rows.now ≡ row_numbers * c) × (c ≤ 4096) × (position < c) }
+    requires { (length rows.now ≡ row_numbers * c) × (position < c) }
     ensures { result ≡ scan (wanted K.includes a) c rows.now (c - 1) position }
 {
     scan::<K>(Table::new(rows, c), position, a)

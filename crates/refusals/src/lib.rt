@@ -3,7 +3,6 @@
 
 ghost use Rattle.std.specs.Prelude.{◌≡◌, length, IfOk};
 ghost use Rattle.setup.specs.Setup.{Ranges};
-ghost use Rattle.answers.specs.Answers.{number};
 ghost use Rattle.model.specs.Lent.{buffers_in, lent};
 ghost use Rattle.model.specs.Range.{lengths_of, lengths_ok, numbers_ok, Room, Exact, Ready};
 ghost use Rattle.model.specs.Calls.{exact_of, standing_of, address_ok, offered_of, refused_by, fresh_state, tell_of};
@@ -121,13 +120,13 @@ pub fn offered(s: Setup, t: State, op: Operation) -> Result<(), Refusal>
 }
 
 // A refused call: delivery none, stamp 0, and the state as it was.
-pub fn refuse(refusal: Refusal, t: State) -> Cycled
-    ensures { result ≡ refused_by (number refusal) t }
+pub fn refuse(answer: u32, t: State) -> Cycled
+    ensures { result ≡ refused_by answer t }
 {
     Cycled {
         state: t,
         reply: Reply {
-            answer: refusal.number(),
+            answer,
             delivery: Delivery::None,
             stamp: 0,
         },

@@ -15,12 +15,11 @@ pub struct Table<'a> {
     pub rows: &'a [u32],
     pub c: usize,
     ghost long: { length rows.now ≡ row_numbers * c },
-    ghost few: { c ≤ 4096 },
 }
 
 impl<'a> Table<'a> {
     pub fn new(rows: &'a [u32], c: usize) -> Self
-        requires { (length rows.now ≡ row_numbers * c) × (c ≤ 4096) }
+        requires { length rows.now ≡ row_numbers * c }
         ensures { (result.rows.now ≡ rows.now) × (result.c ≡ c) }
     {
         Table { rows, c }
@@ -63,6 +62,7 @@ impl<'a> Table<'a> {
     // The numbers of every row are in range whatever its kind is. In a run that is so, so this is quick;
     // of rows that no run leaves, it may say no though they are in range.
     fn plainly_ok(self, n: u32) -> bool
+        requires { self.c ≤ 4096 }
         ensures { result ≡ true → InRange n self.entry.c self.entry.rows.now }
     {
         flat::all_below(self.kinds(), Row::WAITING + 1)
@@ -72,6 +72,7 @@ impl<'a> Table<'a> {
 
     // Every row is in range, row by row.
     fn each_ok(self, n: u32) -> bool
+        requires { self.c ≤ 4096 }
         ensures { result ≡ rows_ok n self.entry.c self.entry.rows.now self.entry.c }
     {
         for i in 0..self.c {
@@ -84,6 +85,7 @@ impl<'a> Table<'a> {
 
     // Every row is in range: by columns, and where that does not show it row by row.
     pub fn rows_ok(self, n: u32) -> bool
+        requires { self.c ≤ 4096 }
         ensures { result ≡ rows_ok n self.entry.c self.entry.rows.now self.entry.c }
     {
         self.plainly_ok(n) || self.each_ok(n)
