@@ -135,7 +135,7 @@ fn one(
 {
     let op = match records::read_operation(bytes) {
         Ok(op) => op,
-        Err(refusal) => return print(r, refusals::refuse(refusal, r.state), false, out),
+        Err(refusal) => return print(r, refusals::refuse(refusal.number(), r.state), false, out),
     };
     let cycled = controller::cycle(s, r.state, op, memory, rows, entries, heads);
     print(r, cycled, true, out)
