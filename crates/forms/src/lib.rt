@@ -257,10 +257,14 @@ impl From<model::Waiting> for Told {
 }
 
 // The operation that the three numbers mean, by the rule of its record.
-pub fn operation_in(op: Operation) -> Result<port::Operation, Refusal>
-    ensures { result ≡ operation_in op }
-{
-    records::operation_from(op.kind, op.address, op.word)
+impl TryFrom<Operation> for port::Operation {
+    type Error = Refusal;
+
+    ghost try_from_gives = { λ op r. r ≡ operation_in op };
+
+    fn try_from(op: Operation) -> Result<port::Operation, Refusal> {
+        records::operation_from(op.kind, op.address, op.word)
+    }
 }
 
 // What C asks of a cycle: the operation is looked at first, then the mark.
@@ -268,7 +272,7 @@ pub fn operation_in(op: Operation) -> Result<port::Operation, Refusal>
 pub fn cycle_asked(t: State, op: Operation) -> Result<(model::State, port::Operation), Unasked>
     ensures { result ≡ asked_of t op }
 {
-    let Ok(o) = operation_in(op) else {
+    let Ok(o) = port::Operation::try_from(op) else {
         return Err(Unasked::NoOperation);
     };
     if mark_ok(t) {

@@ -164,7 +164,7 @@ pub fn ridkostan_read_operation(bytes: &[u8]) -> Recorded
 pub fn ridkostan_write_operation(operation: Operation, room: &mut [u8]) -> u32
     ensures { (result, room.new) ≡ operation_written_out operation room.old }
 {
-    match forms::operation_in(operation) {
+    match port::Operation::try_from(operation) {
         Ok(op) => answers::answer_of(records::write_operation(op, room)),
         Err(_) => Refusal::BadRecord.number(),
     }
