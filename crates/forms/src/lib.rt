@@ -1,8 +1,8 @@
-// What C passes and gets: structs of numbers, and the functions between them and the controller's types.
+// What C passes and gets: structs of numbers, and the conversions between them and the controller's types.
 #![tactic(auto)]
 
 ghost use Rattle.std.specs.Prelude.{◌≡◌};
-ghost use Rattle.forms.specs.Forms.{no_setup, checked_out, lent_out, no_lengths, mark_ok, state_in, mark_out, state_out, started_out, delivery_out, word_out, reply_out, cycled_out, refused_by, told_out, operation_in, asked_of, operation_out, setup_read, operation_read};
+ghost use Rattle.forms.specs.Forms.{no_setup, checked_out, lent_out, no_lengths, mark_ok, state_in, state_out, started_out, reply_out, cycled_out, refused_by, told_out, operation_in, asked_of, operation_out, setup_read, operation_read};
 
 use answers::Refusal;
 use setup::Setup;
@@ -13,9 +13,7 @@ pub const DELIVERY_UNREADY: u32 = 1;
 
 pub const DELIVERY_WORD: u32 = 2;
 
-// A state that is not marked stopped.
-const GOING: u32 = 0;
-
+// The mark of a stopped state; a state that goes on has mark 0.
 const STOPPED: u32 = 1;
 
 // A setup, or refusal 1 and a setup of zeros.
@@ -105,32 +103,36 @@ pub enum Unasked {
     BadMark,
 }
 
-// A checked setup, or refusal 1.
-pub fn checked_out(checked: Result<Setup, Refusal>) -> Checked
-    ensures { result ≡ checked_out checked }
-{
-    match checked {
-        Ok(s) => Checked {
-            answer: answers::DONE,
-            setup: s,
-        },
-        Err(r) => Checked {
-            answer: r.number(),
-            setup: Setup::default(),
-        },
+// A checked setup, or what a setup record holds: the setup, or refusal 1.
+impl From<Result<Setup, Refusal>> for Checked {
+    ghost from_gives = { λ r c. (c ≡ checked_out r) × (c ≡ setup_read r) };
+
+    fn from(held: Result<Setup, Refusal>) -> Checked {
+        match held {
+            Ok(s) => Checked {
+                answer: answers::DONE,
+                setup: s,
+            },
+            Err(r) => Checked {
+                answer: r.number(),
+                setup: Setup::default(),
+            },
+        }
     }
 }
 
 // The lengths due.
-pub fn lent_out(due: model::Lengths) -> Lent
-    ensures { result ≡ lent_out due }
-{
-    Lent {
-        answer: answers::DONE,
-        memory: due.memory,
-        rows: due.rows,
-        entries: due.entries,
-        heads: due.heads,
+impl From<model::Lengths> for Lent {
+    ghost from_gives = { λ due l. l ≡ lent_out due };
+
+    fn from(due: model::Lengths) -> Lent {
+        Lent {
+            answer: answers::DONE,
+            memory: due.memory,
+            rows: due.rows,
+            entries: due.entries,
+            heads: due.heads,
+        }
     }
 }
 
@@ -166,22 +168,17 @@ pub fn state_in(t: State) -> model::State
     }
 }
 
-// The number of a stop mark.
-fn mark_out(stopped: bool) -> u32
-    ensures { result ≡ mark_out stopped }
-{
-    if stopped { STOPPED } else { GOING }
-}
-
 // The state that C gets back.
-pub fn state_out(t: model::State) -> State
-    ensures { result ≡ state_out t }
-{
-    State {
-        stamp: t.stamp,
-        turn: t.turn,
-        position: t.position,
-        stopped: mark_out(t.stopped),
+impl From<model::State> for State {
+    ghost from_gives = { λ t c. c ≡ state_out t };
+
+    fn from(t: model::State) -> State {
+        State {
+            stamp: t.stamp,
+            turn: t.turn,
+            position: t.position,
+            stopped: u32::from(t.stopped),
+        }
     }
 }
 
@@ -193,7 +190,7 @@ pub fn started_out(t: State, started: model::Started) -> Started
     if started.answer == answers::DONE {
         return Started {
             answer: answers::DONE,
-            state: state_out(started.state),
+            state: started.state.into(),
         };
     }
     Started {
@@ -202,46 +199,33 @@ pub fn started_out(t: State, started: model::Started) -> Started
     }
 }
 
-// The number of what leaves.
-fn delivery_out(d: port::Delivery) -> u32
-    ensures { result ≡ delivery_out d }
-{
-    match d {
-        port::Delivery::None => DELIVERY_NONE,
-        port::Delivery::Unready => DELIVERY_UNREADY,
-        port::Delivery::Word(_) => DELIVERY_WORD,
+// The number of what leaves, and its word, 0 where none does.
+impl From<port::Reply> for Reply {
+    ghost from_gives = { λ r c. c ≡ reply_out r };
+
+    fn from(r: port::Reply) -> Reply {
+        let (delivery, word) = match r.delivery {
+            port::Delivery::None => (DELIVERY_NONE, 0),
+            port::Delivery::Unready => (DELIVERY_UNREADY, 0),
+            port::Delivery::Word(word) => (DELIVERY_WORD, word),
+        };
+        Reply {
+            answer: r.answer,
+            delivery,
+            word,
+            stamp: r.stamp,
+        }
     }
 }
 
-// The word that leaves, 0 where none does.
-fn word_out(d: port::Delivery) -> u32
-    ensures { result ≡ word_out d }
-{
-    match d {
-        port::Delivery::None => 0,
-        port::Delivery::Unready => 0,
-        port::Delivery::Word(word) => word,
-    }
-}
+impl From<model::Cycled> for Cycled {
+    ghost from_gives = { λ r c. c ≡ cycled_out r };
 
-fn reply_out(r: port::Reply) -> Reply
-    ensures { result ≡ reply_out r }
-{
-    let d = r.delivery;
-    Reply {
-        answer: r.answer,
-        delivery: delivery_out(d),
-        word: word_out(d),
-        stamp: r.stamp,
-    }
-}
-
-pub fn cycled_out(r: model::Cycled) -> Cycled
-    ensures { result ≡ cycled_out r }
-{
-    Cycled {
-        state: state_out(r.state),
-        reply: reply_out(r.reply),
+    fn from(r: model::Cycled) -> Cycled {
+        Cycled {
+            state: r.state.into(),
+            reply: r.reply.into(),
+        }
     }
 }
 
@@ -261,20 +245,26 @@ pub fn refuse(answer: u32, t: State) -> Cycled
 }
 
 // What a question returned.
-pub fn told_out(w: model::Waiting) -> Told
-    ensures { result ≡ told_out w.answer w.count }
-{
-    Told {
-        answer: w.answer,
-        count: w.count,
+impl From<model::Waiting> for Told {
+    ghost from_gives = { λ w c. c ≡ told_out w.answer w.count };
+
+    fn from(w: model::Waiting) -> Told {
+        Told {
+            answer: w.answer,
+            count: w.count,
+        }
     }
 }
 
 // The operation that the three numbers mean, by the rule of its record.
-pub fn operation_in(op: Operation) -> Result<port::Operation, Refusal>
-    ensures { result ≡ operation_in op }
-{
-    records::operation_from(op.kind, op.address, op.word)
+impl TryFrom<Operation> for port::Operation {
+    type Error = Refusal;
+
+    ghost try_from_gives = { λ op r. r ≡ operation_in op };
+
+    fn try_from(op: Operation) -> Result<port::Operation, Refusal> {
+        records::operation_from(op.kind, op.address, op.word)
+    }
 }
 
 // What C asks of a cycle: the operation is looked at first, then the mark.
@@ -282,7 +272,7 @@ pub fn operation_in(op: Operation) -> Result<port::Operation, Refusal>
 pub fn cycle_asked(t: State, op: Operation) -> Result<(model::State, port::Operation), Unasked>
     ensures { result ≡ asked_of t op }
 {
-    let Ok(o) = operation_in(op) else {
+    let Ok(o) = port::Operation::try_from(op) else {
         return Err(Unasked::NoOperation);
     };
     if mark_ok(t) {
@@ -292,50 +282,44 @@ pub fn cycle_asked(t: State, op: Operation) -> Result<(model::State, port::Opera
 }
 
 // The three numbers of an operation.
-fn operation_out(op: port::Operation) -> Operation
-    ensures { result ≡ operation_out op }
-{
-    match op {
-        port::Operation::Idle => Operation {
-            kind: records::KIND_IDLE,
-            address: 0,
-            word: 0,
-        },
-        port::Operation::Read(a) => Operation {
-            kind: records::KIND_READ,
-            address: a.0,
-            word: 0,
-        },
-        port::Operation::Write(a, word) => Operation {
-            kind: records::KIND_WRITE,
-            address: a.0,
-            word,
-        },
-    }
-}
+impl From<port::Operation> for Operation {
+    ghost from_gives = { λ op c. c ≡ operation_out op };
 
-// What a setup record holds: the setup, or refusal 1.
-pub fn setup_read(held: Result<Setup, Refusal>) -> Checked
-    ensures { result ≡ setup_read held }
-{
-    match held {
-        Ok(s) => checked_out(Ok(s)),
-        Err(r) => checked_out(Err(r)),
+    fn from(op: port::Operation) -> Operation {
+        match op {
+            port::Operation::Idle => Operation {
+                kind: records::KIND_IDLE,
+                address: 0,
+                word: 0,
+            },
+            port::Operation::Read(a) => Operation {
+                kind: records::KIND_READ,
+                address: a.0,
+                word: 0,
+            },
+            port::Operation::Write(a, word) => Operation {
+                kind: records::KIND_WRITE,
+                address: a.0,
+                word,
+            },
+        }
     }
 }
 
 // What an operation record holds: the operation, or idle and answer 9.
-pub fn operation_read(held: Result<port::Operation, Refusal>) -> Recorded
-    ensures { result ≡ operation_read held }
-{
-    match held {
-        Ok(op) => Recorded {
-            answer: answers::DONE,
-            operation: operation_out(op),
-        },
-        Err(refusal) => Recorded {
-            answer: refusal.number(),
-            operation: operation_out(port::Operation::Idle),
-        },
+impl From<Result<port::Operation, Refusal>> for Recorded {
+    ghost from_gives = { λ r c. c ≡ operation_read r };
+
+    fn from(held: Result<port::Operation, Refusal>) -> Recorded {
+        match held {
+            Ok(op) => Recorded {
+                answer: answers::DONE,
+                operation: op.into(),
+            },
+            Err(refusal) => Recorded {
+                answer: refusal.number(),
+                operation: port::Operation::Idle.into(),
+            },
+        }
     }
 }

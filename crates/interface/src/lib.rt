@@ -18,8 +18,7 @@ use setup::Setup;
 pub fn ridkostan_check(setup: Setup) -> Checked
     ensures { result ≡ checked_out (checked_of setup) }
 {
-    let checked = Setup::checked(setup);
-    forms::checked_out(checked)
+    Setup::checked(setup).into()
 }
 
 // How many numbers each lent room has under this setup.
@@ -27,7 +26,7 @@ pub fn ridkostan_lengths(setup: Setup) -> Lent
     ensures { result ≡ lengths_in (checked_of setup) }
 {
     match Setup::checked(setup) {
-        Ok(s) => forms::lent_out(refusals::lengths(s)),
+        Ok(s) => refusals::lengths(s).into(),
         Err(_) => forms::no_lengths(),
     }
 }
@@ -104,10 +103,7 @@ pub fn ridkostan_cycle(
     match forms::cycle_asked(state, operation) {
         Err(Unasked::NoOperation) => forms::refuse(Refusal::BadRecord.number(), state),
         Err(Unasked::BadMark) => refuse_mark(setup, state, memory, rows, entries, heads),
-        Ok((t, op)) => {
-            let cycled = controller::cycle(setup, t, op, memory, rows, entries, heads);
-            forms::cycled_out(cycled)
-        }
+        Ok((t, op)) => controller::cycle(setup, t, op, memory, rows, entries, heads).into(),
     }
 }
 
@@ -126,7 +122,7 @@ pub fn ridkostan_waiting(
         ≡ waiting_out setup state bank (lent memory.now rows.now entries.now heads.now) }
 {
     if forms::mark_ok(state) {
-        let told = controller::waiting(
+        return controller::waiting(
             setup,
             forms::state_in(state),
             bank,
@@ -134,8 +130,8 @@ pub fn ridkostan_waiting(
             rows,
             entries,
             heads,
-        );
-        return forms::told_out(told);
+        )
+        .into();
     }
     Told {
         answer: bad_mark(setup, memory, rows, entries, heads).number(),
@@ -147,7 +143,7 @@ pub fn ridkostan_waiting(
 pub fn ridkostan_read_setup(bytes: &[u8]) -> Checked
     ensures { result ≡ setup_read (setup_of bytes.now) }
 {
-    forms::setup_read(setuprecord::read_setup(bytes))
+    setuprecord::read_setup(bytes).into()
 }
 
 // Writes a setup over the whole room.
@@ -161,14 +157,14 @@ pub fn ridkostan_write_setup(setup: Setup, room: &mut [u8]) -> u32
 pub fn ridkostan_read_operation(bytes: &[u8]) -> Recorded
     ensures { result ≡ operation_read (operation_of bytes.now) }
 {
-    forms::operation_read(records::read_operation(bytes))
+    records::read_operation(bytes).into()
 }
 
 // Writes an operation over the whole room.
 pub fn ridkostan_write_operation(operation: Operation, room: &mut [u8]) -> u32
     ensures { (result, room.new) ≡ operation_written_out operation room.old }
 {
-    match forms::operation_in(operation) {
+    match port::Operation::try_from(operation) {
         Ok(op) => answers::answer_of(records::write_operation(op, room)),
         Err(_) => Refusal::BadRecord.number(),
     }
