@@ -202,6 +202,6 @@ fn main(rt: HostRuntime) {
     let n = read_setup(&rt, &mut file);
     match replay::open(&file[..n]) {
         Ok(s) => start(&rt, &file[..n], s),
-        Err(refusal) => refuse(&rt, &file[..n], &replay::setup_line(refusal)),
+        Err(refusal) => refuse(&rt, &file[..n], &replay::setup_line(refusal.number())),
     }
 }

@@ -12,8 +12,7 @@ use lib.Pow.{pow_mono}
 use borrow.Author.Tests.{eq-eqb, ne_eqb, leb-true}
 use Rattle.answers.specs.declared.Refusal.{Refusal}
 use Rattle.answers.specs.declared.Refusal.TheVariants.{BadSetup, RoomTooSmall}
-use Rattle.answers.specs.Answers.{done, number}
-use Rattle.answers.proofs.Numbers.{number_range}
+use Rattle.answers.specs.Answers.{done}
 use Rattle.setup.specs.Setup.{Ranges, least_delta, with_defaults, in_range, checked_of, words_of, banks_of}
 use Rattle.choice.specs.Choice.{pick}
 use Rattle.setup.specs.declared.Setup.{Setup}
@@ -32,9 +31,9 @@ use Rattle.replay.specs.Replay.{most_a, most_c, most_places, room_for, opening_i
 ------------------------------------------------------------------------
 -- The line of a refused setup
 
-pub line_digit : (r : Refusal) → 115 ∷ 101 ∷ 116 ∷ 117 ∷ 112 ∷ 32 ∷ (nought + number r) ∷ 10 ∷ [] ≡ setup_line (number r)
+pub line_digit : (n : ℕ) → n < ten → 115 ∷ 101 ∷ 116 ∷ 117 ∷ 112 ∷ 32 ∷ (nought + n) ∷ 10 ∷ [] ≡ setup_line n
 unfolding setup_line
-line_digit r = let h : number r < ten = omega (arith, number_range r) in rw (decimal-one (number r) h, mod-eq_of_lt h)
+line_digit n h = rw (decimal-one n h, mod-eq_of_lt h)
 
 ------------------------------------------------------------------------
 -- What an opened setup is known to be

@@ -2,10 +2,10 @@
 #![tactic(auto)]
 
 ghost use Rattle.std.specs.Prelude.{◌≡◌, ◌+◌, ◌*◌, ◌^◌, ◌≤◌, ◌<◌, length};
-ghost use Rattle.answers.specs.Answers.{number};
 ghost use Rattle.setup.specs.Setup.{Sizes};
 ghost use Rattle.model.specs.Lent.{lent};
 ghost use Rattle.records.specs.Records.{operation_of};
+ghost use Rattle.decimal.specs.Decimal.{ten};
 ghost use Rattle.listing.specs.Listing.{line_most};
 ghost use Rattle.replay.specs.Replay.{room_for, opening_of, setup_line, records_in, with_record, listed, listed_from, put_at, put_line, zeros_for, Opened, begun};
 
@@ -69,8 +69,9 @@ pub fn open(file: &[u8]) -> Result<Setup, Refusal>
 
 // The line of a refused setup.
 #[tactic(auto, using(crate::proofs::Opens::line_digit))]
-pub fn setup_line(refusal: Refusal) -> [u8; SETUP_LINE]
-    ensures { result ≡ setup_line (number refusal) }
+pub fn setup_line(answer: u32) -> [u8; SETUP_LINE]
+    requires { answer < ten }
+    ensures { result ≡ setup_line answer }
 {
     [
         b's',
@@ -79,7 +80,7 @@ pub fn setup_line(refusal: Refusal) -> [u8; SETUP_LINE]
         b'u',
         b'p',
         b' ',
-        b'0' + (refusal.number() as u8),
+        b'0' + (answer as u8),
         b'\n',
     ]
 }
