@@ -10,6 +10,7 @@ in_numbers =
       word = λ answer w stamp. refl;
       going = λ stamp turn position. refl;
       stopped = λ stamp turn position. refl;
+      cycled = λ t r. refl;
       checked = λ s. refl;
       refused = refl;
       setup-read = λ s. refl;
@@ -20,4 +21,7 @@ in_numbers =
       read = λ a. refl;
       write = λ a w. refl;
       bad = refl;
+      written = λ room. refl;
+      out_of_range = λ room. refl;
+      other_length = λ room. refl;
     }

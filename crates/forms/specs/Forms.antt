@@ -1,7 +1,7 @@
 -- What C passes and gets: numbers in place of the enums.
-use Rattle.std.specs.Prelude.{ℕ, Bool, leb, eqb, Result, Ok, Err}
+use Rattle.std.specs.Prelude.{ℕ, Bool, List, leb, eqb, ⊤, Result, Ok, Err}
 use Rattle.answers.specs.declared.Refusal.{Refusal}
-use Rattle.answers.specs.Answers.{done, bad_setup}
+use Rattle.answers.specs.Answers.{done, bad_setup, answer_of as answer_number}
 use Rattle.choice.specs.Choice.{pick}
 use Rattle.setup.specs.Setup.{answer_of, setup_or}
 use Rattle.setup.specs.declared.Setup.{Setup}
@@ -133,3 +133,7 @@ setup_read r = record { answer = record_answer r; setup = recorded_or no_setup r
 -- a bad record is handed out as idle
 abbrev pub operation_read : Result port.Operation Refusal → Recorded
 operation_read r = record { answer = operation_answer r; operation = operation_out (operation_or Idle r) }
+
+-- a record that is written: the answer is a number
+abbrev pub written_out : Result ⊤ Refusal × List ℕ → ℕ × List ℕ
+written_out (r, room) = (answer_number r, room)

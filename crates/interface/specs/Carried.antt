@@ -20,8 +20,8 @@ use Rattle.forms.specs.declared.State.{State}
 use Rattle.forms.specs.declared.Started.{Started}
 use Rattle.forms.specs.declared.Operation.{Operation}
 use Rattle.forms.specs.declared.Cycled.{Cycled}
-use Rattle.forms.specs.Forms.{no_lengths, state_in, state_out, operation_in, operation_out, refused_by, told_out}
-use Rattle.interface.specs.Interface.{lengths_in, start_out, cycled_with, cycle_out, waiting_out, written_out, operation_written_out}
+use Rattle.forms.specs.Forms.{no_lengths, state_in, state_out, operation_in, operation_out, refused_by, told_out, written_out}
+use Rattle.interface.specs.Interface.{lengths_in, start_out, cycled_with, cycle_out, waiting_out, operation_written_out}
 
 ------------------------------------------------------------------------
 -- C hands on the state that it got: each call then is the controller's, so demands 2 and 3 hold of what C sees

@@ -1,8 +1,8 @@
 -- What the calls that C makes do.
-use Rattle.std.specs.Prelude.{ℕ, List, ⊤, Result, Ok, Err}
+use Rattle.std.specs.Prelude.{ℕ, List, Result, Ok, Err}
 use Rattle.answers.specs.declared.Refusal.{Refusal}
 use Rattle.answers.specs.declared.Refusal.TheVariants.{BadLength, BadState}
-use Rattle.answers.specs.Answers.{bad_record, number, answer_of}
+use Rattle.answers.specs.Answers.{bad_record, number}
 use Rattle.choice.specs.Choice.{pick}
 use Rattle.setup.specs.Setup.{checked_of}
 use Rattle.setup.specs.declared.Setup.{Setup}
@@ -20,7 +20,7 @@ use Rattle.forms.specs.declared.Started.{Started}
 use Rattle.forms.specs.declared.Operation.{Operation}
 use Rattle.forms.specs.declared.Cycled.{Cycled}
 use Rattle.forms.specs.declared.Told.{Told}
-use Rattle.forms.specs.Forms.{lent_out, no_lengths, mark_ok, state_in, started_out, cycled_out, refused_by, told_out, operation_in, Asked, asked_of}
+use Rattle.forms.specs.Forms.{lent_out, no_lengths, mark_ok, state_in, started_out, cycled_out, refused_by, told_out, operation_in, Asked, asked_of, written_out}
 
 ------------------------------------------------------------------------
 -- How many numbers each lent room has
@@ -66,10 +66,7 @@ waiting_out s t b x =
     pick (mark_ok t) (told_out r.answer r.count) (told_out (number (bad_mark (checked_of s) x)) 0)
 
 ------------------------------------------------------------------------
--- Writing a record: the answer is a number
-
-abbrev pub written_out : Result ⊤ Refusal × List ℕ → ℕ × List ℕ
-written_out (r, room) = (answer_of r, room)
+-- Writing an operation
 
 abbrev pub written_in : Result port.Operation Refusal → List ℕ → ℕ × List ℕ
 written_in (Ok op) room = written_out (operation_written op room)

@@ -7,8 +7,8 @@ ghost use Rattle.setup.specs.Setup.{checked_of};
 ghost use Rattle.model.specs.Lent.{lent};
 ghost use Rattle.records.specs.Records.{operation_of};
 ghost use Rattle.setuprecord.specs.SetupRecord.{setup_of, setup_written};
-ghost use Rattle.forms.specs.Forms.{checked_out, refused_by, setup_read, operation_read};
-ghost use Rattle.interface.specs.Interface.{lengths_in, start_out, bad_mark, cycle_out, waiting_out, written_out, operation_written_out};
+ghost use Rattle.forms.specs.Forms.{checked_out, refused_by, setup_read, operation_read, written_out};
+ghost use Rattle.interface.specs.Interface.{lengths_in, start_out, bad_mark, cycle_out, waiting_out, operation_written_out};
 
 use answers::Refusal;
 use forms::{Checked, Cycled, Lent, Operation, Recorded, Started, State, Told, Unasked};

@@ -13,7 +13,7 @@ use std::path::{Path, PathBuf};
 
 /// What the machine cannot tell of, behind the setup where there is one: a state that no run reaches, a number of the
 /// rooms that document 01 does not name, and what is no call of the controller.
-const NOT_TOLD: [&str; 18] = [
+const NOT_TOLD: [&str; 19] = [
     "the fresh start answers 1 and leaves stamp 0, promised 9",
     "bank 0 has oldest place 1, idle; call 0 answers 0, promised 3",
     "one entry of kind 2 waits, idle; call 0 answers 0, promised 3",
@@ -30,6 +30,7 @@ const NOT_TOLD: [&str; 18] = [
     "the record of kind 1 and address 0; read as a write, promised a read",
     "a record of 0 bytes; reading answers 2, promised 9",
     "a record of 0 bytes; reading answers 2, promised 1",
+    "a setup of zeros, to be written to a room of 20 bytes; answers 0, promised 1",
     "the record of a read of address 0; handed out as a write of the word 0 to it, promised the read",
     "12 bytes of 3, then an idle record; two lines, promised one",
 ];
