@@ -22,6 +22,42 @@ pub checked_ranges : (g s : Setup) → checked_of g ≡ Ok s → Ranges s
 checked_ranges g s c = good_ranges g s (checked_of g) refl c
 
 ------------------------------------------------------------------------
+-- What stands is ready
+
+picked_sound : (b : Bool) (f s : Setup) (n : Refusal) → ◌≡◌ {A = Result Setup Refusal} (pick b (Ok f) (Err n)) (Ok s) → (b ≡ true) × (f ≡ s)
+picked_sound true f s n h = (refl, cc)
+picked_sound false f s n h = let z : ◌≡◌ {A = ℕ} 0 1 = cc in absurd (omega arith)
+
+exact_in_sound : (c : Result Setup Refusal) (s : Setup) (x : Lent) → exact_in c x ≡ Ok s → (c ≡ Ok s) × (lengths_ok s x ≡ true)
+unfolding exact_in
+exact_in_sound (Err n) s x h = let z : ◌≡◌ {A = ℕ} 0 1 = cc in absurd (omega arith)
+exact_in_sound (Ok f) s x h =
+    let p = picked_sound (lengths_ok f x) f s BadLength h in
+    (ap Ok p.1, subst (λ (f : Setup). lengths_ok f x ≡ true) p.1 p.0)
+
+standing_in_sound : (r : Result Setup Refusal) (s : Setup) (t : State) (x : Lent) → standing_in r t x ≡ Ok s
+    → (r ≡ Ok s) × (numbers_ok s t x.rows x.buffers ≡ true)
+unfolding standing_in
+standing_in_sound (Err n) s t x h = let z : ◌≡◌ {A = ℕ} 0 1 = cc in absurd (omega arith)
+standing_in_sound (Ok f) s t x h =
+    let p = picked_sound (numbers_ok f t x.rows x.buffers) f s BadState h in
+    (ap Ok p.1, subst (λ (f : Setup). numbers_ok f t x.rows x.buffers ≡ true) p.1 p.0)
+
+-- r is what the test answered
+module _ (g s : Setup) (x : Lent) {r : Result Setup Refusal} where
+  pub exact_ranges : r ≡ exact_of g x → r ≡ Ok s → Ranges s
+  exact_ranges e h = checked_ranges g s (exact_in_sound (checked_of g) s x (sym e ∙ h)).0
+
+  pub exact_lengths : r ≡ exact_of g x → r ≡ Ok s → lengths_ok s x ≡ true
+  exact_lengths e h = (exact_in_sound (checked_of g) s x (sym e ∙ h)).1
+
+  pub standing_ready : (t : State) → r ≡ standing_of g t x → r ≡ Ok s → Ready s t x
+  standing_ready t e h =
+      let p = standing_in_sound (exact_of g x) s t x (sym e ∙ h) in
+      let q = exact_in_sound (checked_of g) s x p.0 in
+      ready s t x (checked_ranges g s q.0) q.1 p.1
+
+------------------------------------------------------------------------
 -- What is ready stands
 
 module _ (g s : Setup) (c : checked_of g ≡ Ok s) (t : State) (x : Lent) (r : Ready s t x) where
